@@ -63,5 +63,6 @@ fn properties<'a>(session: &mut Session, given: &Value<'a>) -> CiteProperties<'a
         ibid: session.word_or(given, "ibid", IBIDS, IbidState::Different),
         disambiguation: DisambiguateState::None,
         identifier_usage: session.word_or(given, "identifier_usage", USAGES, IdentifierUsage::None),
+        first_names: None,
     }
 }

@@ -10,7 +10,7 @@ use Rattle.driver_requests.specs.Requests.{Request}
 use Rattle.driver_rounds.specs.Documents.{Document}
 use Rattle.driver.specs.Finish.{Rendered, citation_in, finish, overflows, rendered_from}
 use Rattle.driver.specs.Stages.{Final, arranged_for, final, finals_in}
-use Rattle.driver_rounds.specs.FirstPrints.{FirstPrint, disambiguated_in, first_print, first_prints_in, numbered_after}
+use Rattle.driver_rounds.specs.FirstPrints.{FirstPrint, disambiguated_in, first_print, first_prints_in, named_after}
 
 zip_count : {A B : Type 0} (xs : List A) (ys : List B) → length ys ≡ length xs → length (zip xs ys) ≡ length xs
 zip_count [] ys e = refl
@@ -32,7 +32,7 @@ module _ {P : Type 0} where
   module _ (same : P → P → Bool) (d : Document P) where
     firsts_count : length (first_prints_in same d) ≡ length d.requests
     firsts_count =
-        length-map (with_previous None (cites_of d.requests)) (map (λ pair. first_print (numbered_after same d pair)))
+        length-map (with_previous None (cites_of d.requests)) (map (λ pair. first_print (named_after same d pair)))
         ∙ previous_count None (cites_of d.requests) ∙ cites_count [] d.requests
 
     finals_count : (bs : List (List (FirstPrint P))) → length bs ≡ length d.requests → length (finals_in same d bs (disambiguated_in d bs)) ≡ length d.requests

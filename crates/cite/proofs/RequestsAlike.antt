@@ -89,7 +89,7 @@ keyed_alike ms ns cites keys = spread_keys ms ∙ (λ i. spread (cites i) (keys 
 
 -- what nothing answers
 abbrev pub nothing_answered : Answers
-nothing_answered = record { number = λ v. None; pages = None; standard = λ form v. None; people = λ v. []; date = λ v. None; kind = λ k. false; english = None; key = [] }
+nothing_answered = record { number = λ v. None; pages = None; written = λ v. None; standard = λ form v. None; people = λ v. []; date = λ v. None; kind = λ k. false; english = None; key = [] }
 
 -- what the work of a key in a library answers
 abbrev pub answers_at : List EntryData → List ℕ → Answers
@@ -185,11 +185,12 @@ answer_itself a (variables.Name v) = refl
 answer_itself a (variables.Date v) = refl
 
 pub alike_itself : (n : Named) (a : Answers) → AreAlike n a a
-alike_itself n a = record { variables = λ v has. answer_itself a v; kinds = λ k has. refl; english = refl }
+alike_itself n a = record { variables = λ v has. answer_itself a v; written = λ v has. refl; kinds = λ k has. refl; english = refl }
 
 joined_alike : (m n : Named) (a b : Answers) → AreAlike m a b → AreAlike n a b → AreAlike (joined_named m n) a b
 joined_alike m n a b h g = record {
   variables = λ v has. elim (Contains-append_cases m.variables n.variables v has) as (λ _. AnswerAlike a b v) [ inl one ↦ h.variables v one | inr other ↦ g.variables v other ];
+  written = λ v has. elim (Contains-append_cases m.written n.written v has) as (λ _. a.written v ≡ b.written v) [ inl one ↦ h.written v one | inr other ↦ g.written v other ];
   kinds = λ k has. elim (Contains-append_cases m.kinds n.kinds k has) as (λ _. a.kind k ≡ b.kind k) [ inl one ↦ h.kinds k one | inr other ↦ g.kinds k other ];
   english = h.english;
 }

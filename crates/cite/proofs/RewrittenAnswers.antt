@@ -2,7 +2,8 @@
 use Rattle.std.proofs.Common.{◌≡◌, ℕ, List, Result, Ok, Err, sym, subst}
 use Rattle.std.specs.Prelude.{IfErr}
 use Rattle.biblatex.specs.Listed.{Listed}
-use Rattle.cite_requests.specs.Answers.{Answers, Writes, IsRefusal, IsRefusalUnlessWrite, UnlessWrite}
+use Rattle.cite_requests.specs.Answers.{Answers, Writes, IsRefusal, UnlessWrite}
+use Rattle.cite.specs.Cited.{IsRefusedAlike}
 use Rattle.cite.specs.Roads.{ForRewriting, IsSettledFile, rewritten}
 use Rattle.cite_requests.specs.Stages.{Refusal}
 use Rattle.cite.specs.Verdict.{Task, IsVerdict}
@@ -32,8 +33,11 @@ module _ (bib : List ℕ) (task : Task) where
   pub writes_rewritten : (P : List ℕ → Type 0) → Writes (IsVerdict bib task) P → ForRewriting bib (λ other. Writes (IsVerdict other task) P)
   writes_rewritten P is = λ file h. (is.0, of_rewriting file h (Ok is.0) is.1, is.2)
 
-  pub refused_rewritten : {X : Type 0} (r : Result X CiteError) (e : CiteError) → r ≡ Err e → IsRefusal e (IsVerdict bib task)
-      → IfErr r (λ e. ForRewriting bib (λ other. IsRefusalUnlessWrite e (IsVerdict other task)))
-  refused_rewritten {X} r e same is =
-      subst (λ (r : Result X CiteError). IfErr r (λ e. ForRewriting bib (λ other. IsRefusalUnlessWrite e (IsVerdict other task)))) (sym same)
-      (λ file h. unless_write e (IsRefusal e (IsVerdict (rewritten file) task)) (refused_weaker e (IsVerdict bib task) (IsVerdict (rewritten file) task) (λ r. of_rewriting file h (Err r)) is))
+  pub refused_alike : {X : Type 0} (r : Result X CiteError) (e : CiteError) → r ≡ Err e → IsRefusal e (IsVerdict bib task) → IfErr r (IsRefusedAlike bib task)
+  refused_alike {X} r e same is =
+      subst (λ (r : Result X CiteError). IfErr r (IsRefusedAlike bib task)) (sym same)
+      (record {
+        first = unless_write e (IsRefusal e (IsVerdict bib task)) is;
+        rewriting = λ file h.
+            unless_write e (IsRefusal e (IsVerdict (rewritten file) task)) (refused_weaker e (IsVerdict bib task) (IsVerdict (rewritten file) task) (λ r. of_rewriting file h (Err r)) is);
+      })

@@ -14,11 +14,12 @@ ghost use Rattle.cite_markers.specs.Views.{document_view};
 ghost use Rattle.driver.specs.RenderedViews.{rendered_view};
 ghost use Rattle.cite.specs.Verdict.{IsVerdict, rendered_stage};
 ghost use Rattle.cite.specs.Alike.{ForAlike};
+ghost use Rattle.cite.specs.Cited.{IsCited, IsRefusedAlike};
 ghost use Rattle.cite.specs.Roads.{ForRewriting};
 ghost use Rattle.cite_output.specs.Pieces.{output_of};
 ghost use Rattle.cite_requests.specs.Views.{file_works};
 ghost use Rattle.cite.specs.Views.{task_of};
-ghost use Rattle.cite_requests.specs.Answers.{Answers, Gives, Writes, IsRefusalUnlessWrite, UnlessWrite, OnWrite, IsLastFault};
+ghost use Rattle.cite_requests.specs.Answers.{Answers, Gives, Writes, UnlessWrite, OnWrite, IsLastFault};
 
 use cite_markers::Document;
 use cite_output::Output;
@@ -156,28 +157,14 @@ pub fn cite<W: Sink>(
     format: BufWriteFormat,
     sink: &mut W,
 ) -> Result<(), CiteError>
-    // The sink has taken exactly the output.
-    ensures written { OnOk result
-        (Writes (IsVerdict bib.now (task_of document.now style.now locale.now sections.now format))
+    // The sink has taken exactly the output. It is the output of each bib text that is alike to this one too, and of what is written of the
+    // entries without `crossref`, if these are settled and none has two fields that are written under one name.
+    ensures written { OnOk result (IsCited bib.now
+        (task_of document.now style.now locale.now sections.now format)
         (λ output. Appends (W.contents sink.old) (W.contents sink.new) output)) }
-    // What it has taken is the output of each bib text that is alike to this one.
-    ensures alike { OnOk result
-        (ForAlike bib.now (task_of document.now style.now locale.now sections.now format)
-        (λ other. Writes
-        (IsVerdict other (task_of document.now style.now locale.now sections.now format))
-        (λ output. Appends (W.contents sink.old) (W.contents sink.new) output))) }
-    // And it is the output of what is written of the entries without `crossref`, if these are settled and none has
-    // two fields that are written under one name.
-    ensures rewriting { OnOk result (ForRewriting bib.now (λ other. Writes
-        (IsVerdict other (task_of document.now style.now locale.now sections.now format))
-        (λ output. Appends (W.contents sink.old) (W.contents sink.new) output))) }
-    // A refusal is the first one, with its fault.
-    ensures refused { IfErr result (λ e. IsRefusalUnlessWrite e
-        (IsVerdict bib.now (task_of document.now style.now locale.now sections.now format))) }
-    // And what is written of those entries is refused at the same stage, with the same fault.
-    ensures rewriting_refused { IfErr result (λ e. ForRewriting bib.now (λ other.
-        IsRefusalUnlessWrite e
-        (IsVerdict other (task_of document.now style.now locale.now sections.now format)))) }
+    // A refusal is the first one, with its fault; and what is written of those entries is refused at the same stage, with the same fault.
+    ensures refused { IfErr result (IsRefusedAlike bib.now
+        (task_of document.now style.now locale.now sections.now format)) }
     // Nothing is written after any refusal but a failed write.
     ensures untouched { IfErr result (λ e. UnlessWrite e (sink.new ≡ sink.old)) }
     // After a failed write a prefix of the output stands, and some call of `write` failed or took nothing.

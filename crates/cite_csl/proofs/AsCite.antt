@@ -1,5 +1,5 @@
 -- What is written is what `cite` writes for the bib texts as one.
-use Rattle.std.proofs.Common.{◌≡◌, ℕ, Bool, true, false, List, map, chars, if◌then◌else◌, Result, Ok, Err, sym, ap, subst, ◌∙◌}
+use Rattle.std.proofs.Common.{◌≡◌, ℕ, Bool, true, false, List, map, chars, if◌then◌else◌, Result, Ok, Err, refl, sym, ap, subst, ◌∙◌}
 use Rattle.laws.specs.Results.{◌>>=◌}
 use Rattle.laws.specs.Text.{text, is_filled}
 use Rattle.laws.proofs.Results.{ok_is}
@@ -7,20 +7,21 @@ use Rattle.cite_markers.specs.Document.{Piece}
 use Rattle.driver.specs.Finish.{Rendered}
 use Rattle.rendering_locale.specs.Locales.{Locale}
 use Rattle.cite_output.specs.Output.{output_text}
-use Rattle.cite.specs.Verdict.{verdict, rendered_stage, IsVerdict}
+use Rattle.biblatex.specs.Listed.{Listed}
+use Rattle.cite.specs.Verdict.{Task, verdict, rendered_stage, IsVerdict}
 use Rattle.cite_order.specs.Order.{Setting, has_keys, rendered_in_order}
 use Rattle.cite_order.proofs.Stages.{keyless}
-use Rattle.cite_requests.specs.Stages.{Refusal, document_stage}
+use Rattle.cite_requests.specs.Stages.{Refusal, document_stage, library_stage, IsRead}
 use Rattle.cite_requests.specs.Works.{Works}
 use Rattle.cite_csl_command.specs.Command.{Asked}
-use Rattle.cite_csl.specs.Run.{Made, made, IsMade, IsMadeIn, IsOutput, IsCiteOutput, output_of, strict, task_in}
+use Rattle.cite_csl.specs.Run.{Made, made, IsMade, IsMadeIn, IsOutput, IsCiteOutput, AreTypographic, IsTypographicVerdict, output_of, strict, task_in}
 use Rattle.cite_csl_styles.specs.FeatureLines.{feature_lines}
 use Rattle.cite_csl.specs.Names.{document_lines, rendered_lines}
 use Rattle.cite_csl_styles.specs.Sheets.{Sheet, IsSheet, AreLocales, sorting_of}
 use Rattle.cite_csl.specs.Run.{context_in, setting_in}
 use Rattle.cite_csl_styles.specs.Sources.{Reads, file_at, files_at, joined}
 use Rattle.cite_csl_styles.specs.Stages.{Lines}
-use Rattle.cite_csl.specs.Works.{bib_lines, said_by}
+use Rattle.cite_csl.specs.Works.{bib_lines, said_by, typographic_stage}
 
 -- what a stage gives is said by it
 given : {X : Type 0} (lines : Refusal → Lines) (r : Result X Refusal) (x : X) → Ok x ≡ said_by lines r → Ok x ≡ r
@@ -57,15 +58,24 @@ verdict_is read a s works o none is =
     both (document_lines d) (document_stage d.bytes) (rendered_lines d works) (rendered_in_order works s (map chars a.sections)) (λ pieces rendered. text (output_text a.format pieces rendered)) o is
     ∙ ap (λ (next : List Piece → Result Rendered Refusal). document_stage d.bytes >>= λ pieces. next pieces >>= λ rendered. Ok (text (output_text a.format pieces rendered))) (λ i pieces. unsorted pieces i)
 
+-- where the texts are so already, it is the verdict for the bib texts
+typographic_works : (bib : List ℕ) (r : Result Listed Refusal) → IsRead bib r → AreTypographic bib → (r >>= typographic_stage) ≡ (r >>= library_stage)
+typographic_works bib (Ok file) is_read same = ap library_stage (same file is_read)
+typographic_works bib (Err refusal) is_read same = refl
+
+as_written : (bib : List ℕ) (task : Task) (answer : Result (List ℕ) Refusal) → IsTypographicVerdict bib task answer → AreTypographic bib → IsVerdict bib task answer
+as_written bib task answer (r, is_read, is) same =
+    (r >>= library_stage, (r, is_read, refl), is ∙ ap (λ (works : Result Works Refusal). verdict works task) (typographic_works bib r is_read same))
+
 -- the output in a style is a verdict
 in_style : (read : Reads) (a : Asked) (s : Sheet) (o : List ℕ) → IsOutput read a s (Ok o) → (locales : List Locale) × AreLocales s.words (files_at read a.locales) (Ok locales)
-    × (has_keys (sorting_of s) ≡ false → IsVerdict (joined (files_at read a.bibs)) (task_in read a (context_in a s locales)) (Ok o))
+    × (has_keys (sorting_of s) ≡ false → IsTypographicVerdict (joined (files_at read a.bibs)) (task_in read a (context_in a s locales)) (Ok o))
 in_style read a s o (Err lines, _, bad) = absurd cc
 in_style read a s o (Ok locales, are_locales, (Err lines, _, bad)) = absurd cc
-in_style read a s o (Ok locales, are_locales, (Ok works, (w, are_works, works_is), output_is)) =
+in_style read a s o (Ok locales, are_locales, (Ok works, (r, is_read, works_is), output_is)) =
     let context = context_in a s locales in
-    let is = given (bib_lines (files_at read a.bibs)) w works works_is in
-    (locales, are_locales, λ none. (w, are_works, verdict_is read a (setting_in a s locales) works o none output_is ∙ ap (λ (r : Result Works Refusal). verdict r (task_in read a context)) is))
+    let is = given (bib_lines (files_at read a.bibs)) (r >>= typographic_stage) works works_is in
+    (locales, are_locales, λ none. (r, is_read, verdict_is read a (setting_in a s locales) works o none output_is ∙ ap (λ (w : Result Works Refusal). verdict w (task_in read a context)) is))
 
 -- the output of a run is one of cite
 by_sheet : (read : Reads) (a : Asked) (m : Made) (found : Sheet) → IsSheet read a.style (Ok found) → IsMadeIn read a found (Ok m) → IsCiteOutput read a m.output
@@ -75,12 +85,15 @@ by_sheet read a m found is_sheet (Ok s, is_taken, (Ok output, is_output, made_is
     let same = taken a.is_strict s found is_taken in
     let written : output ≡ m.output = ap (λ (n : Made). n.output) (sym (ok_is m (made s output) made_is)) in
     let style = in_style read a s output is_output in
+    let bib = joined (files_at read a.bibs) in
+    let task = task_in read a (context_in a s style.0) in
+    let typographic : has_keys (sorting_of s) ≡ false → IsTypographicVerdict bib task (Ok m.output) = λ none. subst (λ (o : List ℕ). IsTypographicVerdict bib task (Ok o)) written (style.2 none) in
     record {
       sheet = s;
       locales = style.0;
       is_sheet = subst (λ (x : Sheet). IsSheet read a.style (Ok x)) same is_sheet;
       are_locales = style.1;
-      is_verdict = λ none. subst (λ (o : List ℕ). IsVerdict (joined (files_at read a.bibs)) (task_in read a (context_in a s style.0)) (Ok o)) written (style.2 none);
+      is_verdict = λ none. (typographic none, as_written bib task (Ok m.output) (typographic none));
     }
 
 pub as_cite : (read : Reads) (a : Asked) (m : Made) → IsMade read a (Ok m) → IsCiteOutput read a m.output

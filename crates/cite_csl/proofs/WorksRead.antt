@@ -18,7 +18,7 @@ use Rattle.cite_requests.specs.Works.{Works}
 use Rattle.cite_requests.proofs.KeysDistinct.{read_distinct}
 use Rattle.cite_csl_styles.specs.Sources.{SourceFile, joined, lines_at}
 use Rattle.cite_csl_styles.specs.Stages.{Lines}
-use Rattle.cite_csl.specs.Works.{AreWorks, all_date_lines, bib_lines, refused_at, said_by}
+use Rattle.cite_csl.specs.Works.{AreWorks, all_date_lines, bib_lines, refused_at, said_by, typographic_stage}
 
 -- what a text means is what its bytes are read as
 is_read : (t : List ℕ) (meaning : Result Listed reading.Refusal) → IsUtf8 t → TextMeans (chars t) meaning → IsRead t (refused_as bib_refused meaning)
@@ -43,19 +43,19 @@ dates_refused fs t file faults whole is =
 
 module _ (fs : List SourceFile) (t : List ℕ) (whole : t ≡ joined fs) where
   -- the works of a text that is read
-  pub works_given : (file : Listed) (answer : Result Works Lines) → IsUtf8 t → TextMeans (chars t) (Ok file) → said_by (bib_lines fs) (library_stage file) ≡ answer → AreWorks fs answer
+  pub works_given : (file : Listed) (answer : Result Works Lines) → IsUtf8 t → TextMeans (chars t) (Ok file) → said_by (bib_lines fs) (typographic_stage file) ≡ answer → AreWorks fs answer
   works_given file answer utf8 means is =
-      (library_stage file, (Ok file, subst (λ (s : List ℕ). IsRead s (Ok file)) whole (is_read t (Ok file) utf8 means), refl), sym is)
+      (Ok file, subst (λ (s : List ℕ). IsRead s (Ok file)) whole (is_read t (Ok file) utf8 means), sym is)
 
   -- a text that is no bibliography
   pub text_refused : (r : reading.Refusal) → IsUtf8 t → TextMeans (chars t) (Err r) → AreWorks fs (Err (refused_at fs r.start r.reason))
   text_refused r utf8 means =
-      (Err (bib_refused r), (Err (bib_refused r), subst (λ (s : List ℕ). IsRead s (Err (bib_refused r))) whole (is_read t (Err r) utf8 means), refl), refl)
+      (Err (bib_refused r), subst (λ (s : List ℕ). IsRead s (Err (bib_refused r))) whole (is_read t (Err r) utf8 means), refl)
 
   -- bytes that are no text
   pub bytes_refused : (at : ℕ) → (IsUtf8 t → ⊥) → at ≡ utf8_valid_len t → AreWorks fs (Err (lines_at fs at (codes "not UTF-8")))
   bytes_refused at bad is = (
     Err bib_not_utf8,
-    (Err bib_not_utf8, subst (λ (s : List ℕ). IsRead s (Err bib_not_utf8)) whole (not_read t bad), refl),
+    subst (λ (s : List ℕ). IsRead s (Err bib_not_utf8)) whole (not_read t bad),
     ap (λ (n : ℕ). Err (lines_at fs n (codes "not UTF-8"))) (is ∙ ap utf8_valid_len whole),
   )

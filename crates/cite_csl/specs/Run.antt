@@ -4,6 +4,8 @@ use Rattle.std.specs.Option.{option_or}
 use Rattle.std.specs.Str.{chars}
 use Rattle.laws.specs.Results.{◌>>=◌}
 use Rattle.laws.specs.Text.{text, is_filled}
+use Rattle.biblatex.specs.Listed.{Listed}
+use Rattle.biblatex_typography.specs.Typography.{typographic_file}
 use Rattle.literature.specs.Trees.{Tree}
 use Rattle.rendering_locale.specs.Locales.{Locale}
 use Rattle.rendering_context.specs.Contexts.{StyleContext}
@@ -11,9 +13,9 @@ use Rattle.driver.specs.Finish.{Rendered}
 use Rattle.cite_markers.specs.Document.{Piece}
 use Rattle.cite_output.specs.Output.{output_text}
 use Rattle.cite_requests.specs.Refusals.{refusal_text}
-use Rattle.cite_requests.specs.Stages.{Refusal, section_stage}
+use Rattle.cite_requests.specs.Stages.{Refusal, section_stage, IsRead}
 use Rattle.cite_requests.specs.Works.{Works}
-use Rattle.cite.specs.Verdict.{Task, IsVerdict}
+use Rattle.cite.specs.Verdict.{Task, verdict, IsVerdict}
 use Rattle.cite_order.specs.Order.{Setting, has_keys, rendered_in_order}
 use Rattle.cite_csl_command.specs.Command.{Asked}
 use Rattle.cite_csl.specs.Names.{pieces_of, rendered_lines}
@@ -21,7 +23,7 @@ use Rattle.cite_csl_styles.specs.FeatureLines.{feature_lines}
 use Rattle.cite_csl_styles.specs.Sheets.{Sheet, IsSheet, AreLocales, sorting_of}
 use Rattle.cite_csl_styles.specs.Sources.{Reads, SourceFile, AreRead, file_at, files_at, joined, line}
 use Rattle.cite_csl_styles.specs.Stages.{Lines, Then, Gives}
-use Rattle.cite_csl.specs.Works.{AreWorks, said_by}
+use Rattle.cite_csl.specs.Works.{AreWorks, said_by, typographic_stage}
 
 -- the paths that are asked for: the style, the locales, the bib texts, the document
 abbrev pub paths : Asked → List (List ℕ)
@@ -105,13 +107,36 @@ IsCommandFault a lines = sections_of a ≡ Err lines
 abbrev pub IsFault : Reads → Asked → Lines → Type 0
 IsFault read a lines = (is_ok (sections_of a) ≡ true) × IsMade read a (Err lines)
 
--- What is written in a style without sort keys is what `cite` writes for the bib texts as one, in that style and with those locales.
+-- What is written in a style without sort keys is what `cite` writes for the entries of the bib texts as one, in that style and with those
+-- locales, where the texts of the entries are as LaTeX prints them; and what it writes for the bib texts themselves, where they are so already.
 abbrev pub task_in : Reads → Asked → StyleContext → Task
 task_in read a context = record { document = (file_at read a.document).bytes; context = context; sections = map chars a.sections; format = a.format }
+
+abbrev pub IsTypographicVerdict : List ℕ → Task → Result (List ℕ) Refusal → Type 0
+IsTypographicVerdict bib task answer =
+    (read : Result Listed Refusal) × IsRead bib read
+    × (answer ≡ verdict (read >>= typographic_stage) task)
+
+-- the entries of a bib text are as LaTeX prints them
+abbrev pub AreTypographic : List ℕ → Type 0
+AreTypographic bib = (file : Listed) → IsRead bib (Ok file) → typographic_file file ≡ file
+
+-- the bib texts as one, and what is asked for beside them
+abbrev pub bib_text : Reads → Asked → List ℕ
+bib_text read a = joined (files_at read a.bibs)
+
+abbrev pub task_by : Reads → Asked → Sheet → List Locale → Task
+task_by read a s locales = task_in read a (context_in a s locales)
+
+-- what is written in a style without sort keys is both
+abbrev pub IsCiteVerdict : List ℕ → Task → Result (List ℕ) Refusal → Type 0
+IsCiteVerdict bib task answer =
+    IsTypographicVerdict bib task answer × (AreTypographic bib → IsVerdict bib task answer)
 
 pub record IsCiteOutput (read : Reads) (a : Asked) (output : List ℕ) : Type 0 where
   pub sheet : Sheet
   pub locales : List Locale
   pub is_sheet : IsSheet read a.style (Ok sheet)
   pub are_locales : AreLocales sheet.words (files_at read a.locales) (Ok locales)
-  pub is_verdict : has_keys sheet.style ≡ false → IsVerdict (joined (files_at read a.bibs)) (task_in read a (context_in a sheet locales)) (Ok output)
+  pub is_verdict : has_keys sheet.style ≡ false
+      → IsCiteVerdict (bib_text read a) (task_by read a sheet locales) (Ok output)

@@ -5,13 +5,16 @@ use Rattle.std.specs.Option.{option_map}
 use Rattle.std.specs.Str.{bytes_eq, chars}
 use Rattle.std.specs.Str.Lossy.{utf8_valid_len}
 use Rattle.laws.specs.Text.{text}
+use Rattle.laws.specs.Results.{◌>>=◌}
 use Rattle.biblatex.specs.Raw.{At, Entry, Raw}
 use Rattle.biblatex.specs.Items.{raw_of}
 use Rattle.biblatex.specs.Fault as raw
 use Rattle.biblatex.specs.Errors.{reason_text}
+use Rattle.biblatex.specs.Listed.{Listed}
 use Rattle.biblatex.specs.Reading.{Reason, duplicate_key}
+use Rattle.biblatex_typography.specs.Typography.{typographic_file}
 use Rattle.interop.specs.Bridge.{Fault}
-use Rattle.cite_requests.specs.Stages.{Refusal, bib_not_utf8, bib_refused, fields_refused, AreWorksOf}
+use Rattle.cite_requests.specs.Stages.{Refusal, bib_not_utf8, bib_refused, fields_refused, library_stage, IsRead}
 use Rattle.cite_requests.specs.Refusals.{refusal_text}
 use Rattle.cite_requests.specs.Works.{Works}
 use Rattle.cite_csl_styles.specs.Sources.{SourceFile, line, joined, lines_at}
@@ -66,6 +69,12 @@ abbrev pub said_by : {X : Type 0} → (Refusal → Lines) → Result X Refusal �
 said_by lines (Ok x) = Ok x
 said_by lines (Err refusal) = Err (lines refusal)
 
+-- the works of a file whose texts are as LaTeX prints them
+abbrev pub typographic_stage : Listed → Result Works Refusal
+typographic_stage file = library_stage (typographic_file file)
+
 -- the works of the bib texts
 abbrev pub AreWorks : List SourceFile → Result Works Lines → Type 0
-AreWorks fs answer = (works : Result Works Refusal) × AreWorksOf (joined fs) works × (answer ≡ said_by (bib_lines fs) works)
+AreWorks fs answer =
+    (read : Result Listed Refusal) × IsRead (joined fs) read
+    × (answer ≡ said_by (bib_lines fs) (read >>= typographic_stage))

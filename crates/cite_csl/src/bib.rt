@@ -4,6 +4,7 @@ ghost use Rattle.std.specs.Prelude.{◌≡◌, ◌++◌, [], true, ℕ, List, Ok
 ghost use Rattle.std.specs.Str.{bytes_eq, chars};
 ghost use Rattle.laws.specs.Text.{text as text_of};
 ghost use Rattle.biblatex.specs.Bibliographies.{listed_view};
+ghost use Rattle.biblatex.specs.Entries.{HaveJoinedFields};
 ghost use Rattle.biblatex.specs.Errors.{reason_view};
 ghost use Rattle.biblatex.specs.RawViews.{entry_view};
 ghost use Rattle.biblatex_writing.specs.Settled.{have_distinct_keys};
@@ -17,12 +18,13 @@ ghost use Rattle.cite_csl_styles.specs.Sources as sources;
 ghost use Rattle.cite_csl_styles.specs.Views.{sources_view};
 ghost use Rattle.cite_csl.specs.Views.{ArePlaces, kept_at, works_view};
 ghost use Rattle.cite_csl.specs.Works as specs;
-ghost use Rattle.cite_csl.specs.Works.{AreWorks, bib_lines, said_by};
+ghost use Rattle.cite_csl.specs.Works.{AreWorks, bib_lines, said_by, typographic_stage};
 
 use crate::entries::Entries;
 use biblatex::{
     Bibliography, ParseError, ParseErrorKind, RawBibliography, RawEntry, RawError, Spanned,
 };
+use biblatex_typography::typographic;
 use cite_csl_styles::{JoinedFaults, SourceFile, Stop, joined, lines_at, refused};
 use interop::{BridgeError, FieldFault, check_dates};
 use std::alloc::{AllocError, Global};
@@ -241,20 +243,22 @@ fn check_readable(
     }
 }
 
-/// The entries of bib texts, which are read as one, unless some of their dates cannot be read.
+/// The entries of bib texts, which are read as one, with their texts as LaTeX prints them, unless some of their dates cannot be read.
 fn checked(
     alloc: Global,
     files: &[SourceFile<'_>],
     text: &str,
     file: Bibliography,
 ) -> Result<Entries, Stop>
-    requires { have_distinct_keys (listed_view file).entries ≡ true }
+    requires joined { HaveJoinedFields file.entries }
+    requires distinct { have_distinct_keys (listed_view file).entries ≡ true }
     ensures { text.now ≡ sources.joined (sources_view files.now)
         → Returns works_view result (said_by (bib_lines (sources_view files.now))
-        (library_stage (listed_view file))) }
+        (typographic_stage (listed_view file))) }
 {
-    check_readable(alloc, files, text, &file)?;
-    Ok(Entries { file })
+    let printed = typographic(alloc, file)?;
+    check_readable(alloc, files, text, &printed)?;
+    Ok(Entries { file: printed })
 }
 
 /// The entries of a text.

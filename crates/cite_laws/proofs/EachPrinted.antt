@@ -14,7 +14,7 @@ use Rattle.driver_disambiguation.specs.Rounds.{Disambiguation}
 use Rattle.driver_blocks.specs.Blocks.{Gathered}
 use Rattle.driver_blocks.specs.Runs.{Arranged}
 use Rattle.driver_rounds.specs.Documents.{Document}
-use Rattle.driver_rounds.specs.FirstPrints.{FirstPrint, disambiguated_in, first_print, first_prints_in, numbered_after}
+use Rattle.driver_rounds.specs.FirstPrints.{FirstPrint, disambiguated_in, first_print, first_prints_in, named_after}
 use Rattle.driver.specs.Stages.{Final, arranged_for, cite_of, final, first_print_of, gathered_by, has_purpose}
 use Rattle.driver.proofs.ArrangedCount.{arranged_any}
 use Rattle.driver.proofs.ItemsOrder.{found_some}
@@ -82,10 +82,10 @@ module _ {P : Type 0} (same : P → P → Bool) (d : Document P) (t : Disambigua
   HaveIndices r fs = list_any is_at fs ≡ list_any (λ (p : ℕ × Item P). p.0 == n) (enumerate_from 0 r.items)
 
   firsts_at : (earlier : List (Request P)) (r : Request P) (last : Option (cites.Cite P))
-      → list_any is_first_at (map (λ p. first_print (numbered_after same d p)) (zip (last ∷ map (λ c. Some c) (map (cite_at earlier r) (enumerate_from 0 r.items))) (map (cite_at earlier r) (enumerate_from 0 r.items))))
+      → list_any is_first_at (map (λ p. first_print (named_after same d p)) (zip (last ∷ map (λ c. Some c) (map (cite_at earlier r) (enumerate_from 0 r.items))) (map (cite_at earlier r) (enumerate_from 0 r.items))))
       ≡ list_any (λ (p : ℕ × Item P). p.0 == n) (enumerate_from 0 r.items)
   firsts_at earlier r last =
-      any_after is_first_at (λ p. first_print (numbered_after same d p)) (λ (c : cites.Cite P). c.index == n) (λ before c. refl) last (map (cite_at earlier r) (enumerate_from 0 r.items))
+      any_after is_first_at (λ p. first_print (named_after same d p)) (λ (c : cites.Cite P). c.index == n) (λ before c. refl) last (map (cite_at earlier r) (enumerate_from 0 r.items))
       ∙ any_map (cite_at earlier r) (λ (c : cites.Cite P). c.index == n) (enumerate_from 0 r.items)
       ∙ any_same (λ p. (cite_at earlier r p).index == n) (λ (p : ℕ × Item P). p.0 == n) at (enumerate_from 0 r.items)
     where
@@ -100,11 +100,11 @@ module _ {P : Type 0} (same : P → P → Bool) (d : Document P) (t : Disambigua
       ∙ any_map (gathered_by t) (λ (x : Gathered (FirstPrint P)). is_first_at x.cite) bs
 
   all_at : (earlier : List (Request P)) (before : Option (cites.Cite P)) (last : Option (Arranged (FirstPrint P))) (rs : List (Request P))
-      → AllZip HaveIndices rs (map (map (final same t)) (with_previous last (map (arranged_for t) (zip rs (map (map (λ p. first_print (numbered_after same d p))) (with_previous before (cites_after earlier rs)))))))
+      → AllZip HaveIndices rs (map (map (final same t)) (with_previous last (map (arranged_for t) (zip rs (map (map (λ p. first_print (named_after same d p))) (with_previous before (cites_after earlier rs)))))))
   all_at earlier before last [] = tt
   all_at earlier before last (r ∷ rs) =
       let cs = map (cite_at earlier r) (enumerate_from 0 r.items) in
-      let bs = map (λ p. first_print (numbered_after same d p)) (zip (before ∷ map (λ c. Some c) cs) cs) in
+      let bs = map (λ p. first_print (named_after same d p)) (zip (before ∷ map (λ c. Some c) cs) cs) in
       (finals_at r bs last ∙ firsts_at earlier r before, all_at (earlier ++ r ∷ []) (last_or before cs) (last_or last (arranged_for t (r, bs))) rs)
 
 module _ (x : StyleContext) (cited : List EntryData) (n : ℕ) where

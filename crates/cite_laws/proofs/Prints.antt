@@ -8,7 +8,7 @@ use Rattle.driver_disambiguation.specs.Rounds.{Disambiguation}
 use Rattle.driver_blocks.specs.Blocks.{Gathered}
 use Rattle.driver_blocks.specs.Runs.{Arranged}
 use Rattle.driver_rounds.specs.Documents.{Document}
-use Rattle.driver_rounds.specs.FirstPrints.{FirstPrint, first_print, first_prints_in, numbered_after}
+use Rattle.driver_rounds.specs.FirstPrints.{FirstPrint, first_print, first_prints_in, named_after}
 use Rattle.driver.specs.Stages.{Final, arranged_for, cite_of, final, finals_in, first_print_of, gathered_by, has_purpose}
 use Rattle.driver.proofs.ArrangedCites.{IsOne, arranged_all}
 use Rattle.driver.proofs.Members.{map_all, weaker_all, zip_all}
@@ -30,17 +30,17 @@ module _ {P : Type 0} (same : P → P → Bool) (d : Document P) (t : Disambigua
   abbrev pub OfFinal : Request P → Final P → Type 0
   OfFinal r f = Q r (cite_of f)
 
-  firsts : (r : Request P) (last : Option (Cite P)) (cs : List (Cite P)) → AllByRecursion (Q r) cs → AllByRecursion (OfFirst r) (map (λ p. first_print (numbered_after same d p)) (zip (last ∷ map (λ c. Some c) cs) cs))
+  firsts : (r : Request P) (last : Option (Cite P)) (cs : List (Cite P)) → AllByRecursion (Q r) cs → AllByRecursion (OfFirst r) (map (λ p. first_print (named_after same d p)) (zip (last ∷ map (λ c. Some c) cs) cs))
   firsts r last cs h =
       let pairs = zip (last ∷ map (λ c. Some c) cs) cs in
-      map_all (OfFirst r) (λ p. first_print (numbered_after same d p)) pairs
-      (weaker_all (λ (p : Option (Cite P) × Cite P). Q r p.1) (λ p. OfFirst r (first_print (numbered_after same d p))) at pairs (zip_all (Q r) (last ∷ map (λ c. Some c) cs) cs h))
+      map_all (OfFirst r) (λ p. first_print (named_after same d p)) pairs
+      (weaker_all (λ (p : Option (Cite P) × Cite P). Q r p.1) (λ p. OfFirst r (first_print (named_after same d p))) at pairs (zip_all (Q r) (last ∷ map (λ c. Some c) cs) cs h))
     where
-      at : (p : Option (Cite P) × Cite P) → Q r p.1 → OfFirst r (first_print (numbered_after same d p))
+      at : (p : Option (Cite P) × Cite P) → Q r p.1 → OfFirst r (first_print (named_after same d p))
       at (before, c) g = g
 
   all_firsts : (earlier : List (Request P)) (last : Option (Cite P)) (rs : List (Request P))
-      → AllByRecursion (λ (p : Request P × List (FirstPrint P)). AllByRecursion (OfFirst p.0) p.1) (zip rs (map (map (λ p. first_print (numbered_after same d p))) (with_previous last (cites_after earlier rs))))
+      → AllByRecursion (λ (p : Request P × List (FirstPrint P)). AllByRecursion (OfFirst p.0) p.1) (zip rs (map (map (λ p. first_print (named_after same d p))) (with_previous last (cites_after earlier rs))))
   all_firsts earlier last [] = tt
   all_firsts earlier last (r ∷ rs) =
       let cs = map (cite_at earlier r) (enumerate_from 0 r.items) in

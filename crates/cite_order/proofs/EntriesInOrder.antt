@@ -9,8 +9,8 @@ use Rattle.driver_order.specs.Order.{entries_in_order, entry_keys}
 use Rattle.driver_order.specs.Ordered.{ordered_by}
 use Rattle.rendering_sorting.specs.Keys.{key_cmp}
 use Rattle.sorting.specs.Sorted.{sorted}
-use Rattle.driver_order.proofs.MappedSorts.{map-sorted}
-use Rattle.cite_order.proofs.Sorts.{sorted_all}
+use Rattle.sorting.proofs.MappedSorts.{map-sorted}
+use Rattle.sorting.proofs.Sorts.{sorted_all}
 
 -- a numbered member under a map
 abbrev with_number : {X Y : Type 0} → (X → Y) → ℕ × X → ℕ × Y

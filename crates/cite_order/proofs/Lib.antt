@@ -5,5 +5,4 @@ pub mod MarkersInOrder
 pub mod NeededWorks
 pub mod OnceAgreed
 pub mod Requested
-pub mod Sorts
 pub mod Stages

@@ -18,12 +18,12 @@ use Rattle.driver_requests.specs.declared.request.CitationRequest.{CitationReque
 use Rattle.driver_order.specs.EntryKeys.{citation_keys}
 use Rattle.driver_order.specs.Ordered.{ordered_by}
 use Rattle.driver_order.specs.Sorted.{RequestParts, item_keys, items_in_order, request_in_order, request_parts}
-use Rattle.driver_order.proofs.MappedSorts.{map-sorted}
+use Rattle.sorting.proofs.MappedSorts.{map-sorted}
 use Rattle.cite_requests.specs.Asked.{AskedItem, AskedRequest, asked_item, asked_request, asked_request_view, item_from}
 use Rattle.cite_requests.specs.Markers.{CitedWork}
 use Rattle.cite_requests.specs.Requests.{OwnLocator, works_in}
 use Rattle.cite_order.specs.Order.{cite_keys, markers_in_order}
-use Rattle.cite_order.proofs.Sorts.{sorted_all, sorted_agrees}
+use Rattle.sorting.proofs.Sorts.{sorted_all, sorted_agrees}
 
 -- a request by the works of its items
 abbrev pub requested : RequestParts Entry OwnLocator → AskedRequest

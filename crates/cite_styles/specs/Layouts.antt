@@ -32,6 +32,7 @@ plain_bibliography l = record {
   entry_spacing = pos 1;
   substitute = None;
   substitute_rule = substitutes.CompleteAll;
+  substitutes_names_alone = false;
 }
 
 -- a style of one category, without locales and macros of its own

@@ -78,6 +78,7 @@ year =
       part_changes = [];
       delimiter = None;
       text_case = None;
+      merges_ranges = false;
       look = plain_look;
     }))
 

@@ -82,6 +82,7 @@ pub(crate) fn plain_bibliography(layout: Layout) -> Bibliography
         entry_spacing: 1,
         subsequent_author_substitute: None,
         subsequent_author_substitute_rule: SubsequentAuthorSubstituteRule::CompleteAll,
+        substitutes_names_alone: false,
     }
 }
 

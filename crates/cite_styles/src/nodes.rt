@@ -161,6 +161,7 @@ pub(crate) fn year(alloc: Global) -> Result<Node, AllocError>
         part_changes: Vec::new(alloc),
         delimiter: None,
         text_case: None,
+        merges_ranges: false,
         look: Look::plain(alloc),
     }))
 }

@@ -1,7 +1,7 @@
 -- Errors of pages, and what they say of the output.
 use Rattle.std.proofs.Common.{◌≡◌, ℕ, ◌+◌, ◌≤◌, Bool, true, false, List, [], ◌++◌, length, refl, ap, arith}
 use Rattle.std.proofs.lemmas.List.{length-append}
-use Rattle.cite_requests.specs.Answers.{OnWrite}
+use Rattle.cite_requests.specs.Answers.{IsRefusalUnlessWrite, OnWrite, Wanted}
 use Rattle.cite_requests.specs.declared.error.CiteError.{CiteError}
 use Rattle.cite_requests.specs.declared.error.CiteError.TheVariants as errors
 use Rattle.cite_uses.specs.Pages.{page_error}
@@ -12,6 +12,12 @@ without_room true (errors.Write fault) P Q p f = tt
 without_room true e P Q p f = tt
 without_room false (errors.Write fault) P Q p f = f refl p
 without_room false e P Q p f = tt
+
+-- and a refusal stays one
+pub still_refused : (has_room : Bool) (e : CiteError) (wanted : Wanted (List ℕ)) → IsRefusalUnlessWrite e wanted → IsRefusalUnlessWrite (page_error has_room e) wanted
+still_refused true (errors.Write fault) wanted h = tt
+still_refused true e wanted h = h
+still_refused false e wanted h = h
 
 -- what has a prefix that fills the page is no shorter
 pub filled : (room : ℕ) (bytes output prefix rest : List ℕ) → room ≤ length bytes → bytes ≡ prefix → output ≡ prefix ++ rest → room ≤ length output

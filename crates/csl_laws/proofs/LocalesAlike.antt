@@ -25,7 +25,7 @@ use Rattle.csl_locales.specs.declared.ordinals.TheConstants.{ORDINALS}
 use Rattle.csl_laws.specs.Alike.{AreSameTexts, AreAlikeInside}
 use Rattle.csl_laws.specs.Trees.{text_counts, Alike}
 use Rattle.csl_laws.proofs.Reordered.{GoesByName, found_same}
-use Rattle.csl_laws.proofs.Said.{SaySame, alike_said, names_same, value_same, text_same, says_same, set_same, EachFound, AreFound, part_found, called_found, mapped_same, then_same, none_found, each_same}
+use Rattle.csl_laws.proofs.Said.{SaySame, alike_said, names_same, value_same, text_same, printed_text_same, says_same, set_same, EachFound, AreFound, part_found, called_found, mapped_same, then_same, none_found, each_same}
 use Rattle.csl_laws.proofs.LooksAlike.{term_form_same, own_parts_same}
 
 -- ---- texts that count
@@ -167,7 +167,7 @@ date_same x y a =
     λ j. record {
       form = unwrap_or (value_same x y h (table DATE_FORMS.now) (codes "form") j) date_forms.Text;
       parts = own_parts_same x y a j;
-      delimiter = text_same x y h (codes "delimiter") j;
+      delimiter = printed_text_same x y h (codes "delimiter") j;
     }
 
 option_same : (name : List ℕ) (x y : Element) → Alike x y → option_set name x ≡ option_set name y

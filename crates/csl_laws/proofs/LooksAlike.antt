@@ -32,7 +32,7 @@ use Rattle.csl_nodes.specs.Options.{name_options}
 use Rattle.csl_nodes.specs.Terms.{printed_variable, term_of}
 use Rattle.csl_laws.specs.Alike.{AreAlikeInside}
 use Rattle.csl_laws.specs.Trees.{text_counts, Alike}
-use Rattle.csl_laws.proofs.Said.{SaySame, alike_said, names_same, value_same, text_same, says_same, set_same, true_same, number_same, values_same, part_found, mapped_same, some_found}
+use Rattle.csl_laws.proofs.Said.{SaySame, alike_said, names_same, value_same, printed_same, printed_text_same, says_same, set_same, true_same, number_same, values_same, part_found, mapped_same, some_found}
 
 module _ (x y : Element) (h : SaySame x y) where
   pub formatting_same : formatting x ≡ formatting y
@@ -50,8 +50,8 @@ module _ (x y : Element) (h : SaySame x y) where
   pub look_same : look x ≡ look y
   look_same = λ j. record {
     formatting = formatting_same j;
-    prefix = text_same x y h (codes "prefix") j;
-    suffix = text_same x y h (codes "suffix") j;
+    prefix = printed_text_same x y h (codes "prefix") j;
+    suffix = printed_text_same x y h (codes "suffix") j;
     display = value_same x y h (table DISPLAYS.now) (codes "display") j;
   }
 
@@ -78,7 +78,7 @@ module _ (x y : Element) (h : SaySame x y) where
   pub options_same : (form delimiter : List ℕ) → name_options form delimiter x ≡ name_options form delimiter y
   options_same form delimiter = λ j. record {
     and_term = value_same x y h (table ANDS.now) (codes "and") j;
-    delimiter = h delimiter j;
+    delimiter = printed_same x y h delimiter j;
     delimiter_precedes_last = value_same x y h (table DELIMITERS.now) (codes "delimiter-precedes-last") j;
     et_al_min = number_same x y h (codes "et-al-min") j;
     et_al_use_first = number_same x y h (codes "et-al-use-first") j;
@@ -86,19 +86,19 @@ module _ (x y : Element) (h : SaySame x y) where
     et_al_subsequent_use_first = number_same x y h (codes "et-al-subsequent-use-first") j;
     et_al_use_last = set_same x y h (codes "et-al-use-last") j;
     form = value_same x y h (table NAME_FORMS.now) form j;
-    initialize_with = h (codes "initialize-with") j;
+    initialize_with = printed_same x y h (codes "initialize-with") j;
     name_as_sort_order = value_same x y h (table SORT_ORDERS.now) (codes "name-as-sort-order") j;
-    sort_separator = h (codes "sort-separator") j;
+    sort_separator = printed_same x y h (codes "sort-separator") j;
     demote = value_same x y h (table DEMOTES.now) (codes "demote-non-dropping-particle") j;
     delimiter_precedes_et_al = value_same x y h (table DELIMITERS.now) (codes "delimiter-precedes-et-al") j;
     initialize = set_same x y h (codes "initialize") j;
     initialize_with_hyphen = set_same x y h (codes "initialize-with-hyphen") j;
     splits_initials = None;
-    names_delimiter = h (codes "names-delimiter") j;
+    names_delimiter = printed_same x y h (codes "names-delimiter") j;
   }
 
   pub group_same : group_node x ≡ group_node y
-  group_same = λ j. record { delimiter = h (codes "delimiter") j; look = look_same j }
+  group_same = λ j. record { delimiter = printed_same x y h (codes "delimiter") j; look = look_same j }
 
   -- parts of dates
   in_form_same : (form : DatePartForm) → in_form x form ≡ in_form y form
@@ -117,7 +117,7 @@ module _ (x y : Element) (h : SaySame x y) where
     strips_periods = set_same x y h (codes "strip-periods") j;
     text_case = case_same j;
     formatting = formatting_same j;
-    range_delimiter = h (codes "range-delimiter") j;
+    range_delimiter = printed_same x y h (codes "range-delimiter") j;
   }
 
   pub part_same : (form : DatePartForm) → part_of x form ≡ part_of y form
@@ -126,9 +126,9 @@ module _ (x y : Element) (h : SaySame x y) where
     strips_periods = true_same x y h (codes "strip-periods") j;
     text_case = case_same j;
     formatting = formatting_same j;
-    prefix = text_same x y h (codes "prefix") j;
-    suffix = text_same x y h (codes "suffix") j;
-    range_delimiter = h (codes "range-delimiter") j;
+    prefix = printed_text_same x y h (codes "prefix") j;
+    suffix = printed_text_same x y h (codes "suffix") j;
+    range_delimiter = printed_same x y h (codes "range-delimiter") j;
   }
 
   -- texts
@@ -142,7 +142,7 @@ module _ (x y : Element) (h : SaySame x y) where
   text_by_same words (Some v) m t = λ j. option_map (λ (k : Variable). variable_text_same k j) (printed_variable (text v))
   text_by_same words None (Some m) t = λ j. Some (call (text m) (text_look_same j))
   text_by_same words None None (Some t) = λ j. Some (leaf (nodes.text (of_term (term_of words (text t)) (term_form_same j) (true_same x y h (codes "plural") j)) (text_look_same j)))
-  text_by_same words None None None = λ j. Some (leaf (nodes.text (of_value (text_same x y h (codes "value") j)) (text_look_same j)))
+  text_by_same words None None None = λ j. Some (leaf (nodes.text (of_value (printed_text_same x y h (codes "value") j)) (text_look_same j)))
 
   pub text_node_same : (words : List (List ℕ)) → text_node words x ≡ text_node words y
   text_node_same words =
@@ -169,8 +169,8 @@ module _ (x y : Element) (h : SaySame x y) where
   name_part_same = λ j. record {
     formatting = formatting_same j;
     text_case = case_same j;
-    prefix = text_same x y h (codes "prefix") j;
-    suffix = text_same x y h (codes "suffix") j;
+    prefix = printed_text_same x y h (codes "prefix") j;
+    suffix = printed_text_same x y h (codes "suffix") j;
   }
 
   pub et_al_same : et_al x ≡ et_al y
@@ -220,8 +220,9 @@ date_of_same x y a v =
       parts = unwrap_or (value_same x y h (table DATE_PARTS.now) (codes "date-parts") j) cuts.YearMonthDay;
       own_parts = cond (is_some (date_form_same x y h j)) [] (own_parts_same x y a j);
       part_changes = cond (is_some (date_form_same x y h j)) (own_changes_same x y a j) [];
-      delimiter = h (codes "delimiter") j;
+      delimiter = printed_same x y h (codes "delimiter") j;
       text_case = case_same x y h j;
+      merges_ranges = true;
       look = look_same x y h j;
     }
 
@@ -255,8 +256,8 @@ name_look_same x y a =
     λ j. record {
       options = options_same x y h (codes "form") (codes "delimiter") j;
       formatting = formatting_same x y h j;
-      prefix = text_same x y h (codes "prefix") j;
-      suffix = text_same x y h (codes "suffix") j;
+      prefix = printed_text_same x y h (codes "prefix") j;
+      suffix = printed_text_same x y h (codes "suffix") j;
       given = part_for_same (codes "given") x y a j;
       family = part_for_same (codes "family") x y a j;
     }
@@ -281,6 +282,6 @@ names_node_same x y a =
       label = mapped_same (codes "label") label_look (λ e f is es. label_look_same e f (alike_said e f es)) (part_called (codes "label") x) (part_called (codes "label") y) (part_found (codes "label") x y a) j;
       label_is_first = some_found (codes "name") (part_called (codes "name") x) (part_called (codes "name") y) (part_found (codes "name") x y a) j && leads_inside x y a j;
       merges_editor_translator = merges (values_same x y h (table NAME_VARIABLES.now) (codes "variable") j);
-      delimiter = h (codes "delimiter") j;
+      delimiter = printed_same x y h (codes "delimiter") j;
       look = look_same x y h j;
     }

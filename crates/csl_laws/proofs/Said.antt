@@ -7,6 +7,7 @@ use Rattle.laws.specs.Text.{text}
 use Rattle.xml_tree.specs.Trees.{Attribute, Element, Tagged, Content, Last, Next}
 use Rattle.xml_schema.specs.Faults.{is_had, name_of}
 use Rattle.csl_words.specs.Looking.{table, in_table, attribute, text_of, says, value_by, is_set, is_true, number_in, number, words_of, words_in, values_by}
+use Rattle.csl_words.specs.Printing.{spaced, printed, printed_text}
 use Rattle.csl_words.specs.Elements.{is_called, first_called, part_called}
 use Rattle.csl_words.specs.declared.options.TheConstants.{BOOLEANS}
 use Rattle.csl_locales.specs.Called.{all_called, called}
@@ -31,6 +32,12 @@ module _ (x y : Element) (h : SaySame x y) where
 
   pub text_same : (name : List ℕ) → text_of name x ≡ text_of name y
   text_same name = ap (λ (o : Option (List ℕ)). unwrap_or o []) (h name)
+
+  pub printed_same : (name : List ℕ) → printed name x ≡ printed name y
+  printed_same name = ap (option_map spaced) (h name)
+
+  pub printed_text_same : (name : List ℕ) → printed_text name x ≡ printed_text name y
+  printed_text_same name = ap spaced (text_same name)
 
   pub says_same : (name word : List ℕ) → says name word x ≡ says name word y
   says_same name word = ap (λ (t : List ℕ). bytes_eq (text t) word) (text_same name)

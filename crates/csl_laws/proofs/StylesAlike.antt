@@ -1,5 +1,5 @@
 -- What styles mean that say the same.
-use Rattle.std.proofs.Common.{◌≡◌, ℕ, Bool, cond, not, ◌&&◌, List, [], ◌++◌, map, Option, Some, None, option_map, option_to_list, codes, pos, refl, ap, ◌∙◌}
+use Rattle.std.proofs.Common.{◌≡◌, true, ℕ, Bool, cond, not, ◌&&◌, List, [], ◌++◌, map, Option, Some, None, option_map, option_to_list, codes, pos, refl, ap, ◌∙◌}
 use Rattle.std.specs.Option.{option_map_or, option_and_then, option_or, unwrap_or}
 use Rattle.laws.specs.Characters.{hyphen}
 use Rattle.laws.specs.Text.{text}
@@ -29,7 +29,7 @@ use Rattle.csl_styles.specs.SecondFields.{aligned}
 use Rattle.csl_styles.specs.Styles.{demoting, splitting, default_locale, citation_in, bibliography_in, keys_in, style}
 use Rattle.csl_laws.specs.Alike.{AreAlikeInside}
 use Rattle.csl_laws.specs.Trees.{text_counts, Alike}
-use Rattle.csl_laws.proofs.Said.{SaySame, alike_said, names_same, value_same, text_same, says_same, set_same, true_same, number_same, part_found, called_found, made_same, mapped_same, then_same, each_same}
+use Rattle.csl_laws.proofs.Said.{SaySame, alike_said, names_same, value_same, text_same, printed_same, says_same, set_same, true_same, number_same, part_found, called_found, made_same, mapped_same, then_same, each_same}
 use Rattle.csl_laws.proofs.LooksAlike.{formatting_same, options_same}
 use Rattle.csl_laws.proofs.NodesAlike.{in_same, macro_same}
 use Rattle.csl_laws.proofs.LocalesAlike.{locale_same, unlisted_same}
@@ -79,9 +79,9 @@ layout_same words x y a =
     λ j. record {
       nodes = in_same words x y a j;
       formatting = formatting_same x y h j;
-      prefix = h (codes "prefix") j;
-      suffix = h (codes "suffix") j;
-      delimiter = h (codes "delimiter") j;
+      prefix = printed_same x y h (codes "prefix") j;
+      suffix = printed_same x y h (codes "suffix") j;
+      delimiter = printed_same x y h (codes "delimiter") j;
     }
 
 layout_in_same : (words : List (List ℕ)) (x y : Element) → Alike x y → layout_in words x ≡ layout_in words y
@@ -122,9 +122,9 @@ citation_same words x y a =
       givenname_rule = unwrap_or (value_same x y h (table GIVEN_NAME_RULES.now) (codes "givenname-disambiguation-rule") j) ByCite;
       add_year_suffix = true_same x y h (codes "disambiguate-add-year-suffix") j;
       collapse = value_same x y h (table COLLAPSES.now) (codes "collapse") j;
-      cite_group_delimiter = option_or (h (codes "cite-group-delimiter") j) (usual_delimiter (value_same x y h (table COLLAPSES.now) (codes "collapse") j));
-      after_collapse_delimiter = h (codes "after-collapse-delimiter") j;
-      year_suffix_delimiter = h (codes "year-suffix-delimiter") j;
+      cite_group_delimiter = option_or (printed_same x y h (codes "cite-group-delimiter") j) (usual_delimiter (value_same x y h (table COLLAPSES.now) (codes "collapse") j));
+      after_collapse_delimiter = printed_same x y h (codes "after-collapse-delimiter") j;
+      year_suffix_delimiter = printed_same x y h (codes "year-suffix-delimiter") j;
       near_note_distance = unwrap_or (number_same x y h (codes "near-note-distance") j) 5;
       raises_names_first = true_same x y h (codes "disambiguate-add-givenname") j
           && not (is_by_cite (unwrap_or (value_same x y h (table GIVEN_NAME_RULES.now) (codes "givenname-disambiguation-rule") j) ByCite));
@@ -143,8 +143,9 @@ bibliography_same words x y a =
       second_field_align = value_same x y h (table SECOND_FIELDS.now) (codes "second-field-align") j;
       line_spacing = line_spacing (unwrap_or (number_same x y h (codes "line-spacing") j) 1);
       entry_spacing = spacing_same x y h j;
-      substitute = h (codes "subsequent-author-substitute") j;
+      substitute = printed_same x y h (codes "subsequent-author-substitute") j;
       substitute_rule = unwrap_or (value_same x y h (table SUBSTITUTE_RULES.now) (codes "subsequent-author-substitute-rule") j) CompleteAll;
+      substitutes_names_alone = true;
     }
 
 citation_in_same : (words : List (List ℕ)) (x y : Element) → Alike x y → citation_in words x ≡ citation_in words y

@@ -3,7 +3,8 @@ use Rattle.std.specs.Prelude.{ℕ, Bool, List, map, codes, Option, option_and_th
 use Rattle.xml_tree.specs.Trees.{Element}
 use Rattle.rendering_locale.specs.Locales.{LocalizedDate, Locale}
 use Rattle.rendering_taxonomy.specs.declared.date.DateForm.TheVariants as date_forms
-use Rattle.csl_words.specs.Looking.{table, value_by, text_of, is_set}
+use Rattle.csl_words.specs.Looking.{table, value_by, is_set}
+use Rattle.csl_words.specs.Printing.{printed_text}
 use Rattle.csl_words.specs.declared.options.TheConstants.{DATE_FORMS}
 use Rattle.csl_words.specs.Elements.{content_in, part_called}
 use Rattle.csl_locales.specs.Called.{called}
@@ -17,7 +18,7 @@ abbrev pub localized_date : Element → LocalizedDate
 localized_date e = record {
   form = unwrap_or (value_by (table DATE_FORMS.now) (codes "form") e) date_forms.Text;
   parts = date_parts (content_in e);
-  delimiter = text_of (codes "delimiter") e;
+  delimiter = printed_text (codes "delimiter") e;
 }
 
 -- what an option of a locale is set to, if it says it

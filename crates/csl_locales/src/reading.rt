@@ -14,7 +14,7 @@ use crate::endings::ordinals_of;
 use crate::language::language;
 use crate::terms::localized_terms;
 use csl_nodes::{Words, date_parts};
-use csl_words::{DATE_FORMS, is_set, part_called, text_of, value_by};
+use csl_words::{DATE_FORMS, is_set, part_called, printed_text, value_by};
 use rendering_locale::{Locale, LocalizedDate, Terms};
 use rendering_taxonomy::DateForm;
 use std::alloc::{AllocError, Global};
@@ -34,7 +34,7 @@ fn localized_date(alloc: Global, element: &Element<'_>) -> Result<LocalizedDate,
     ensures { IfOk result (λ d. localized_date_view d
         ≡ localized_date (element_view element.now)) }
 {
-    let delimiter = text_of(alloc, "delimiter", element)?;
+    let delimiter = printed_text(alloc, "delimiter", element)?;
     let parts = date_parts(alloc, element)?;
     Ok(LocalizedDate {
         form: value_by(DATE_FORMS, "form", element).unwrap_or(DateForm::Text),

@@ -11,7 +11,8 @@ use Rattle.rendering_style.specs.declared.node.ChangedDatePart.TheVariants as ch
 use Rattle.rendering_taxonomy.specs.declared.date.DatePartForm.{DatePartForm}
 use Rattle.rendering_taxonomy.specs.declared.date.DatePartForm.TheVariants as parts
 use Rattle.csl_words.specs.Elements.{is_called}
-use Rattle.csl_words.specs.Looking.{table, attribute, value_by, is_set, is_true, text_of}
+use Rattle.csl_words.specs.Looking.{table, value_by, is_set, is_true}
+use Rattle.csl_words.specs.Printing.{printed, printed_text}
 use Rattle.csl_words.specs.declared.options.TheConstants.{DATE_PART_NAMES, DAY_FORMS, LENGTHS, MONTH_FORMS}
 use Rattle.csl_nodes.specs.Looks.{formatting, text_case}
 
@@ -28,9 +29,9 @@ part_of e form = record {
   strips_periods = is_true (codes "strip-periods") e;
   text_case = text_case e;
   formatting = formatting e;
-  prefix = text_of (codes "prefix") e;
-  suffix = text_of (codes "suffix") e;
-  range_delimiter = attribute (codes "range-delimiter") e;
+  prefix = printed_text (codes "prefix") e;
+  suffix = printed_text (codes "suffix") e;
+  range_delimiter = printed (codes "range-delimiter") e;
 }
 
 -- the part of a date that an element names, in the form that it has where nothing else is said
@@ -59,7 +60,7 @@ change_of e form = record {
   strips_periods = is_set (codes "strip-periods") e;
   text_case = text_case e;
   formatting = formatting e;
-  range_delimiter = attribute (codes "range-delimiter") e;
+  range_delimiter = printed (codes "range-delimiter") e;
 }
 
 -- the change of a part of a date that an element is, if it is one

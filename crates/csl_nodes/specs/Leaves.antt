@@ -1,5 +1,5 @@
 -- Elements without nodes in them: texts, numbers, labels and dates.
-use Rattle.std.specs.Prelude.{ℕ, false, List, [], ◌∷◌, if◌then◌else◌, Option, Some, None, is_some, unwrap_or, codes}
+use Rattle.std.specs.Prelude.{ℕ, true, false, List, [], ◌∷◌, if◌then◌else◌, Option, Some, None, is_some, unwrap_or, codes}
 use Rattle.std.specs.Option.{option_map, option_and_then}
 use Rattle.laws.specs.Text.{text}
 use Rattle.xml_tree.specs.Trees.{Element}
@@ -17,7 +17,8 @@ use Rattle.rendering_taxonomy.specs.declared.variable.Variable.TheVariants as va
 use Rattle.rendering_style.specs.Nodes.{TextSource, of_variable, of_term, of_value, NumberNode, DatePartChange, DateNode, Condition, has_answer, Leaf, number, label, date, Node, leaf, call, choose, no_nodes, node, otherwise, branch}
 use Rattle.rendering_style.specs.Nodes as nodes
 use Rattle.csl_words.specs.Elements.{content_in}
-use Rattle.csl_words.specs.Looking.{table, attribute, value_by, is_true, text_of}
+use Rattle.csl_words.specs.Looking.{table, attribute, value_by, is_true}
+use Rattle.csl_words.specs.Printing.{printed, printed_text}
 use Rattle.csl_words.specs.declared.options.TheConstants.{DATE_FORMS, DATE_PARTS, LENGTHS, NUMBER_FORMS}
 use Rattle.csl_words.specs.declared.variables.TheConstants.{DATE_VARIABLES, NUMBER_VARIABLES}
 use Rattle.csl_nodes.specs.Terms.{printed_variable, term_of}
@@ -57,7 +58,7 @@ abbrev pub text_by : List (List ℕ) → Element → Option (List ℕ) → Optio
 text_by unlisted e (Some v) m t = option_map (variable_text e) (printed_variable (text v))
 text_by unlisted e None (Some m) t = Some (call (text m) (text_look e))
 text_by unlisted e None None (Some t) = Some (term_text unlisted e (text t))
-text_by unlisted e None None None = Some (text_of_source e (of_value (text_of (codes "value") e)))
+text_by unlisted e None None None = Some (text_of_source e (of_value (printed_text (codes "value") e)))
 
 abbrev pub text_node : List (List ℕ) → Element → Option Node
 text_node unlisted e = text_by unlisted e (attribute (codes "variable") e) (attribute (codes "macro") e) (attribute (codes "term") e)
@@ -91,7 +92,7 @@ own_parts e = if is_some (date_form e) then [] else date_parts (content_in e)
 abbrev pub form_changes : Element → List DatePartChange
 form_changes e = if is_some (date_form e) then part_changes (content_in e) else []
 
--- the answer to a variable of a date
+-- the answer to a variable of a date; the sides of a range print once what they share
 abbrev pub date_of : Element → DateVariable → DateNode
 date_of e v = record {
   variable = v;
@@ -99,8 +100,9 @@ date_of e v = record {
   parts = unwrap_or (value_by (table DATE_PARTS.now) (codes "date-parts") e) cuts.YearMonthDay;
   own_parts = own_parts e;
   part_changes = form_changes e;
-  delimiter = attribute (codes "delimiter") e;
+  delimiter = printed (codes "delimiter") e;
   text_case = text_case e;
+  merges_ranges = true;
   look = look e;
 }
 

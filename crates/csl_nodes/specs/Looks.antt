@@ -7,7 +7,8 @@ use Rattle.rendering_taxonomy.specs.declared.term.TermForm.{TermForm}
 use Rattle.rendering_taxonomy.specs.declared.term.TermForm.TheVariants as forms
 use Rattle.rendering_taxonomy.specs.declared.text_case.TextCase.{TextCase}
 use Rattle.rendering_style.specs.Nodes.{Look, TextLook, LabelLook}
-use Rattle.csl_words.specs.Looking.{table, attribute, value_by, is_true, text_of}
+use Rattle.csl_words.specs.Looking.{table, value_by, is_true}
+use Rattle.csl_words.specs.Printing.{printed_text}
 use Rattle.csl_words.specs.declared.options.TheConstants.{ALIGNMENTS, DECORATIONS, DISPLAYS, FONT_STYLES, FONT_VARIANTS, FONT_WEIGHTS, PLURALS, TEXT_CASES}
 use Rattle.csl_words.specs.declared.terms.TheConstants.{TERM_FORMS}
 
@@ -29,8 +30,8 @@ text_case e = value_by (table TEXT_CASES.now) (codes "text-case") e
 abbrev pub look : Element → Look
 look e = record {
   formatting = formatting e;
-  prefix = text_of (codes "prefix") e;
-  suffix = text_of (codes "suffix") e;
+  prefix = printed_text (codes "prefix") e;
+  suffix = printed_text (codes "suffix") e;
   display = value_by (table DISPLAYS.now) (codes "display") e;
 }
 

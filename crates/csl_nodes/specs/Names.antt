@@ -10,7 +10,8 @@ use Rattle.rendering_taxonomy.specs.declared.variable.NameVariable.{NameVariable
 use Rattle.rendering_taxonomy.specs.declared.variable.NameVariable.TheVariants as people
 use Rattle.rendering_style.specs.Nodes.{NamePart, NameLook, EtAl, NamesNode}
 use Rattle.csl_words.specs.Elements.{is_called, content_in, part_called}
-use Rattle.csl_words.specs.Looking.{table, attribute, value_by, says, text_of, values_by}
+use Rattle.csl_words.specs.Looking.{table, value_by, says, values_by}
+use Rattle.csl_words.specs.Printing.{printed, printed_text}
 use Rattle.csl_words.specs.declared.options.TheConstants.{ET_AL_TERMS}
 use Rattle.csl_words.specs.declared.variables.TheConstants.{NAME_VARIABLES}
 use Rattle.csl_nodes.specs.Looks.{formatting, text_case, look, label_look}
@@ -21,8 +22,8 @@ abbrev pub name_part : Element → NamePart
 name_part e = record {
   formatting = formatting e;
   text_case = text_case e;
-  prefix = text_of (codes "prefix") e;
-  suffix = text_of (codes "suffix") e;
+  prefix = printed_text (codes "prefix") e;
+  suffix = printed_text (codes "suffix") e;
 }
 
 -- an element is for the part of that word, `given` or `family`
@@ -43,8 +44,8 @@ abbrev pub name_look : Element → NameLook
 name_look e = record {
   options = name_options (codes "form") (codes "delimiter") e;
   formatting = formatting e;
-  prefix = text_of (codes "prefix") e;
-  suffix = text_of (codes "suffix") e;
+  prefix = printed_text (codes "prefix") e;
+  suffix = printed_text (codes "suffix") e;
   given = part_for (codes "given") e;
   family = part_for (codes "family") e;
 }
@@ -74,6 +75,6 @@ names_node e = record {
   label = option_map label_look (part_called (codes "label") e);
   label_is_first = label_is_first e;
   merges_editor_translator = merges (values_by (table NAME_VARIABLES.now) (codes "variable") e);
-  delimiter = attribute (codes "delimiter") e;
+  delimiter = printed (codes "delimiter") e;
   look = look e;
 }

@@ -8,7 +8,8 @@ use Rattle.rendering_style.specs.Nodes.{GroupNode, plain_look, Node, names, choo
 use Rattle.rendering_style.specs.Styles.{Macro}
 use Rattle.rendering_style.specs.Views.{Branch, branches_of}
 use Rattle.csl_words.specs.Elements.{is_called, named_by, content_in}
-use Rattle.csl_words.specs.Looking.{table, attribute, text_of}
+use Rattle.csl_words.specs.Looking.{table, text_of}
+use Rattle.csl_words.specs.Printing.{printed}
 use Rattle.csl_nodes.specs.Looks.{look}
 use Rattle.csl_nodes.specs.Leaves.{text_node, number_node, label_node, date_node}
 use Rattle.csl_nodes.specs.Names.{names_node}
@@ -19,7 +20,7 @@ use Rattle.csl_nodes.specs.declared.nodes.TheConstants.{PRINTING}
 
 -- a group's look, and what stands between its children
 abbrev pub group_node : Element → GroupNode
-group_node e = record { delimiter = attribute (codes "delimiter") e; look = look e }
+group_node e = record { delimiter = printed (codes "delimiter") e; look = look e }
 
 -- the node of an element of that kind, where the nodes in it, those of its substitute, its branches and the nodes of its `else` are these
 abbrev pub node_by : List (List ℕ) → Option Printing → Element → List Node → List Node → List Branch → List Node → Option Node

@@ -13,7 +13,7 @@ use crate::looks::{formatting, text_case};
 use crate::pushing::push_if;
 use csl_words::{
     DATE_PART_NAMES, DAY_FORMS, LENGTHS, MONTH_FORMS, children_of, is_called, is_set, is_true,
-    optional_text, text_of, value_by,
+    printed, printed_text, value_by,
 };
 use rendering_locale::DatePart;
 use rendering_style::{ChangedDatePart, DatePartChange};
@@ -42,9 +42,9 @@ fn in_form(element: &Element<'_>, form: DatePartForm) -> DatePartForm
 fn part_of(alloc: Global, element: &Element<'_>, form: DatePartForm) -> Result<DatePart, AllocError>
     ensures { IfOk result (λ p. part_view p ≡ part_of (element_view element.now) form) }
 {
-    let prefix = text_of(alloc, "prefix", element)?;
-    let suffix = text_of(alloc, "suffix", element)?;
-    let range_delimiter = optional_text(alloc, "range-delimiter", element)?;
+    let prefix = printed_text(alloc, "prefix", element)?;
+    let suffix = printed_text(alloc, "suffix", element)?;
+    let range_delimiter = printed(alloc, "range-delimiter", element)?;
     Ok(DatePart {
         form: in_form(element, form),
         strip_periods: is_true("strip-periods", element),
@@ -122,7 +122,7 @@ fn change_of(
 ) -> Result<DatePartChange, AllocError>
     ensures { IfOk result (λ c. part_change_view c ≡ change_of (element_view element.now) form) }
 {
-    let range_delimiter = optional_text(alloc, "range-delimiter", element)?;
+    let range_delimiter = printed(alloc, "range-delimiter", element)?;
     Ok(DatePartChange {
         part: changed_in(element, form),
         strip_periods: is_set("strip-periods", element),

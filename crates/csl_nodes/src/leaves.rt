@@ -21,7 +21,7 @@ use crate::terms::{printed_variable, term_of};
 use crate::words::Words;
 use csl_words::{
     DATE_FORMS, DATE_PARTS, DATE_VARIABLES, LENGTHS, NUMBER_FORMS, NUMBER_VARIABLES, attribute,
-    is_true, optional_text, text_of, value_by,
+    is_true, printed, printed_text, value_by,
 };
 use rendering_locale::DatePart;
 use rendering_style::{
@@ -166,7 +166,7 @@ fn words_text(alloc: Global, unlisted: &Words, element: &Element<'_>) -> Result<
     match attribute("term", element) {
         Some(word) => term_text(alloc, unlisted, element, word),
         None => {
-            let value = text_of(alloc, "value", element)?;
+            let value = printed_text(alloc, "value", element)?;
             text_of_target(alloc, element, TextTarget::Value(value))
         }
     }
@@ -277,7 +277,7 @@ fn date_of(alloc: Global, element: &Element<'_>, variable: DateVariable) -> Resu
     let form = value_by(DATE_FORMS, "form", element);
     let own_parts = own_parts(alloc, element)?;
     let part_changes = form_changes(alloc, element)?;
-    let delimiter = optional_text(alloc, "delimiter", element)?;
+    let delimiter = printed(alloc, "delimiter", element)?;
     let look = look(alloc, element)?;
     Ok(Node::Date(Date {
         variable,
@@ -287,6 +287,7 @@ fn date_of(alloc: Global, element: &Element<'_>, variable: DateVariable) -> Resu
         part_changes,
         delimiter,
         text_case: text_case(element),
+        merges_ranges: true,
         look,
     }))
 }

@@ -8,7 +8,7 @@ ghost use Rattle.csl_nodes.specs.Looks.{formatting, text_case, look, text_look, 
 
 use csl_words::{
     ALIGNMENTS, DECORATIONS, DISPLAYS, FONT_STYLES, FONT_VARIANTS, FONT_WEIGHTS, PLURALS,
-    TERM_FORMS, TEXT_CASES, is_true, text_of, value_by,
+    TERM_FORMS, TEXT_CASES, is_true, printed_text, value_by,
 };
 use rendering_style::{LabelLook, Look, TextLook};
 use rendering_taxonomy::{FormattingChanges, LabelPluralize, TermForm, TextCase};
@@ -39,8 +39,8 @@ pub fn text_case(element: &Element<'_>) -> Option<TextCase>
 pub(crate) fn look(alloc: Global, element: &Element<'_>) -> Result<Look, AllocError>
     ensures { IfOk result (λ l. look_view l ≡ look (element_view element.now)) }
 {
-    let prefix = text_of(alloc, "prefix", element)?;
-    let suffix = text_of(alloc, "suffix", element)?;
+    let prefix = printed_text(alloc, "prefix", element)?;
+    let suffix = printed_text(alloc, "suffix", element)?;
     Ok(Look {
         formatting: formatting(element),
         prefix,

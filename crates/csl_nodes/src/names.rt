@@ -15,7 +15,7 @@ ghost use Rattle.csl_nodes.specs.Names.{name_part, is_part, first_part, part_for
 use crate::looks::{formatting, label_look, look, text_case};
 use crate::options::name_options;
 use csl_words::{
-    ET_AL_TERMS, NAME_VARIABLES, children_of, is_called, optional_text, part_called, says, text_of,
+    ET_AL_TERMS, NAME_VARIABLES, children_of, is_called, part_called, printed, printed_text, says,
     value_by, values_by,
 };
 use rendering_style::{EtAl, LabelLook, Name, NamePart, Names};
@@ -27,8 +27,8 @@ use xml_tree::Element;
 fn name_part(alloc: Global, element: &Element<'_>) -> Result<NamePart, AllocError>
     ensures { IfOk result (λ p. name_part_view p ≡ name_part (element_view element.now)) }
 {
-    let prefix = text_of(alloc, "prefix", element)?;
-    let suffix = text_of(alloc, "suffix", element)?;
+    let prefix = printed_text(alloc, "prefix", element)?;
+    let suffix = printed_text(alloc, "suffix", element)?;
     Ok(NamePart {
         formatting: formatting(element),
         text_case: text_case(element),
@@ -85,8 +85,8 @@ fn name_look(alloc: Global, element: &Element<'_>) -> Result<Name, AllocError>
     ensures { IfOk result (λ n. name_look_view n ≡ name_look (element_view element.now)) }
 {
     let options = name_options(alloc, "form", "delimiter", element)?;
-    let prefix = text_of(alloc, "prefix", element)?;
-    let suffix = text_of(alloc, "suffix", element)?;
+    let prefix = printed_text(alloc, "prefix", element)?;
+    let suffix = printed_text(alloc, "suffix", element)?;
     let given = part_for(alloc, "given", element)?;
     let family = part_for(alloc, "family", element)?;
     Ok(Name {
@@ -212,7 +212,7 @@ pub(crate) fn names_of(alloc: Global, element: &Element<'_>) -> Result<Names, Al
     let variables = values_by(alloc, NAME_VARIABLES, "variable", element)?;
     let name = name_in(alloc, element)?;
     let label = label_in(alloc, element)?;
-    let delimiter = optional_text(alloc, "delimiter", element)?;
+    let delimiter = printed(alloc, "delimiter", element)?;
     let look = look(alloc, element)?;
     let merges_editor_translator = merges(variables.as_slice());
     Ok(Names {

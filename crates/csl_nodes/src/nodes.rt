@@ -16,7 +16,7 @@ use crate::looks::look;
 use crate::names::names_of;
 use crate::pushing::push_if;
 use crate::words::Words;
-use csl_words::{children_of, is_called, named_by, optional_text, part_called};
+use csl_words::{children_of, is_called, named_by, part_called, printed};
 use rendering_style::{ChooseBranch, Group, Node};
 use std::alloc::{AllocError, Global};
 use xml_tree::Element;
@@ -48,7 +48,7 @@ pub(crate) const PRINTING: &[(&str, Printing)] = &[
 fn group_of(alloc: Global, element: &Element<'_>) -> Result<Group, AllocError>
     ensures { IfOk result (λ g. group_node_view g ≡ group_node (element_view element.now)) }
 {
-    let delimiter = optional_text(alloc, "delimiter", element)?;
+    let delimiter = printed(alloc, "delimiter", element)?;
     let look = look(alloc, element)?;
     Ok(Group { delimiter, look })
 }

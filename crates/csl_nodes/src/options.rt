@@ -6,7 +6,7 @@ ghost use Rattle.xml_tree.specs.Views.{element_view};
 ghost use Rattle.csl_nodes.specs.Options.{name_options};
 
 use csl_words::{
-    ANDS, DELIMITERS, DEMOTES, NAME_FORMS, SORT_ORDERS, is_set, number, optional_text, value_by,
+    ANDS, DELIMITERS, DEMOTES, NAME_FORMS, SORT_ORDERS, is_set, number, printed, value_by,
 };
 use rendering_style::NameOptions;
 use std::alloc::{AllocError, Global};
@@ -25,10 +25,10 @@ pub fn name_options(
     ensures { IfOk result (λ o. options_view o
         ≡ name_options form.now delimiter.now (element_view element.now)) }
 {
-    let between = optional_text(alloc, delimiter, element)?;
-    let initialize_with = optional_text(alloc, "initialize-with", element)?;
-    let sort_separator = optional_text(alloc, "sort-separator", element)?;
-    let names_delimiter = optional_text(alloc, "names-delimiter", element)?;
+    let between = printed(alloc, delimiter, element)?;
+    let initialize_with = printed(alloc, "initialize-with", element)?;
+    let sort_separator = printed(alloc, "sort-separator", element)?;
+    let names_delimiter = printed(alloc, "names-delimiter", element)?;
     Ok(NameOptions {
         and: value_by(ANDS, "and", element),
         delimiter: between,

@@ -8,6 +8,7 @@ use Rattle.rendering_style.specs.Styles.{Bibliography}
 use Rattle.rendering_taxonomy.specs.declared.style.SubsequentAuthorSubstituteRule.{SubsequentAuthorSubstituteRule}
 use Rattle.rendering_taxonomy.specs.declared.style.SubsequentAuthorSubstituteRule.TheVariants.{CompleteAll}
 use Rattle.csl_words.specs.Looking.{table, attribute, value_by, is_true, number, number_in}
+use Rattle.csl_words.specs.Printing.{printed}
 use Rattle.csl_words.specs.declared.options.TheConstants.{SECOND_FIELDS, SUBSTITUTE_RULES}
 use Rattle.csl_nodes.specs.Options.{name_options}
 use Rattle.csl_styles.specs.Layouts.{layout_in}
@@ -42,7 +43,7 @@ spacing_of e = option_map_or (λ (t : List ℕ). entry_spacing (taken hyphen t))
 abbrev pub substitute_rule : Element → SubsequentAuthorSubstituteRule
 substitute_rule e = unwrap_or (value_by (table SUBSTITUTE_RULES.now) (codes "subsequent-author-substitute-rule") e) CompleteAll
 
--- a bibliography
+-- a bibliography; what stands for names leaves their labels and affixes
 abbrev pub bibliography : List (List ℕ) → Element → Bibliography
 bibliography words e = record {
   layout = aligned (value_by (table SECOND_FIELDS.now) (codes "second-field-align") e) (layout_in words e);
@@ -51,6 +52,7 @@ bibliography words e = record {
   second_field_align = value_by (table SECOND_FIELDS.now) (codes "second-field-align") e;
   line_spacing = line_spacing_of e;
   entry_spacing = spacing_of e;
-  substitute = attribute (codes "subsequent-author-substitute") e;
+  substitute = printed (codes "subsequent-author-substitute") e;
   substitute_rule = substitute_rule e;
+  substitutes_names_alone = true;
 }

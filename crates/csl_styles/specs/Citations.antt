@@ -7,7 +7,8 @@ use Rattle.rendering_taxonomy.specs.declared.style.Collapse.TheVariants.{Citatio
 use Rattle.rendering_taxonomy.specs.declared.style.DisambiguationRule.{DisambiguationRule}
 use Rattle.rendering_taxonomy.specs.declared.style.DisambiguationRule.TheVariants.{ByCite, AllNames, AllNamesWithInitials, PrimaryName, PrimaryNameWithInitials}
 use Rattle.rendering_style.specs.Styles.{Citation}
-use Rattle.csl_words.specs.Looking.{table, attribute, value_by, is_true, number}
+use Rattle.csl_words.specs.Looking.{table, value_by, is_true, number}
+use Rattle.csl_words.specs.Printing.{printed}
 use Rattle.csl_words.specs.declared.options.TheConstants.{GIVEN_NAME_RULES, COLLAPSES}
 use Rattle.csl_nodes.specs.Options.{name_options}
 use Rattle.csl_styles.specs.Layouts.{layout_in}
@@ -46,14 +47,15 @@ usual_delimiter c = if is_by_year c then Some (codes ", ") else None
 
 -- the text between cites of a group
 abbrev pub group_delimiter : Element → Option (List ℕ)
-group_delimiter e = option_or (attribute (codes "cite-group-delimiter") e) (usual_delimiter (collapse e))
+group_delimiter e = option_or (printed (codes "cite-group-delimiter") e) (usual_delimiter (collapse e))
 
 -- up to how many notes back a note is near
 abbrev pub near_note_distance : Element → ℕ
 near_note_distance e = unwrap_or (number (codes "near-note-distance") e) 5
 
--- A citation. Its last members but one are what CSL says of every style: the first of alike cites takes the branch for alike ones too; ibid
--- repeats a citation of one cite alone; names are compared with those of other entries; year suffixes go by the numbers of entries.
+-- A citation. Of its last members all but `raises_names_first` are what CSL says of every style: the first of alike cites takes
+-- the branch for alike ones too; ibid repeats a citation of one cite alone; names are compared with those of other entries; year
+-- suffixes go by the numbers of entries; cites are gathered by what their names print.
 abbrev pub citation : List (List ℕ) → Element → Citation
 citation words e = record {
   layout = layout_in words e;
@@ -64,12 +66,13 @@ citation words e = record {
   add_year_suffix = is_true (codes "disambiguate-add-year-suffix") e;
   collapse = collapse e;
   cite_group_delimiter = group_delimiter e;
-  after_collapse_delimiter = attribute (codes "after-collapse-delimiter") e;
-  year_suffix_delimiter = attribute (codes "year-suffix-delimiter") e;
+  after_collapse_delimiter = printed (codes "after-collapse-delimiter") e;
+  year_suffix_delimiter = printed (codes "year-suffix-delimiter") e;
   near_note_distance = near_note_distance e;
   first_chooses_too = true;
   ibid_after_one = true;
   same_entry_is_no_rival = true;
   suffixes_by_number = true;
   raises_names_first = raises_names_first e;
+  gathers_by_text = true;
 }

@@ -9,6 +9,7 @@ use Rattle.rendering_taxonomy.specs.declared.variable.Variable.{Variable}
 use Rattle.rendering_style.specs.Sorting.{SortTarget, by_variable, by_macro, SortKey}
 use Rattle.rendering_style.specs.Styles.{Layout}
 use Rattle.csl_words.specs.Looking.{table, attribute, value_by, text_of, is_set, number}
+use Rattle.csl_words.specs.Printing.{printed}
 use Rattle.csl_words.specs.declared.options.TheConstants.{SORT_DIRECTIONS}
 use Rattle.csl_words.specs.Elements.{content_in, part_called}
 use Rattle.csl_locales.specs.Called.{called}
@@ -21,9 +22,9 @@ abbrev pub layout : List (List ℕ) → Element → Layout
 layout words e = record {
   nodes = nodes_in words (content_in e);
   formatting = formatting e;
-  prefix = attribute (codes "prefix") e;
-  suffix = attribute (codes "suffix") e;
-  delimiter = attribute (codes "delimiter") e;
+  prefix = printed (codes "prefix") e;
+  suffix = printed (codes "suffix") e;
+  delimiter = printed (codes "delimiter") e;
 }
 
 -- what prints nothing

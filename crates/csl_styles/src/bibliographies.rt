@@ -14,7 +14,7 @@ use crate::layouts::layout_in;
 use crate::second_fields::part_first;
 use csl_nodes::{Words, name_options};
 use csl_words::{
-    SECOND_FIELDS, SUBSTITUTE_RULES, attribute, is_true, number, number_in, optional_text, value_by,
+    SECOND_FIELDS, SUBSTITUTE_RULES, attribute, is_true, number, number_in, printed, value_by,
 };
 use rendering_style::Bibliography;
 use rendering_taxonomy::SubsequentAuthorSubstituteRule;
@@ -96,7 +96,7 @@ pub(crate) fn bibliography(
     ensures { IfOk result (λ b. bibliography_layout_view b
         ≡ specs.bibliography (words_view words.now) (element_view element.now)) }
 {
-    let substitute = optional_text(alloc, "subsequent-author-substitute", element)?;
+    let substitute = printed(alloc, "subsequent-author-substitute", element)?;
     let name_options = name_options(alloc, "name-form", "name-delimiter", element)?;
     let mut layout = layout_in(alloc, words, element)?;
     let align = value_by(SECOND_FIELDS, "second-field-align", element);
@@ -110,5 +110,6 @@ pub(crate) fn bibliography(
         entry_spacing: spacing_of(element),
         subsequent_author_substitute: substitute,
         subsequent_author_substitute_rule: substitute_rule(element),
+        substitutes_names_alone: true,
     })
 }

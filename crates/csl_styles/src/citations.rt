@@ -10,7 +10,7 @@ ghost use Rattle.csl_styles.specs.Citations as specs;
 
 use crate::layouts::layout_in;
 use csl_nodes::{Words, name_options};
-use csl_words::{COLLAPSES, GIVEN_NAME_RULES, is_true, number, optional_text, value_by};
+use csl_words::{COLLAPSES, GIVEN_NAME_RULES, is_true, number, printed, value_by};
 use rendering_style::Citation;
 use rendering_taxonomy::{Collapse, DisambiguationRule};
 use std::alloc::{AllocError, Global};
@@ -80,7 +80,7 @@ fn group_delimiter(alloc: Global, element: &Element<'_>) -> Result<Option<String
     ensures { IfOk result (λ s. option_map characters s
         ≡ specs.group_delimiter (element_view element.now)) }
 {
-    match optional_text(alloc, "cite-group-delimiter", element)? {
+    match printed(alloc, "cite-group-delimiter", element)? {
         Some(delimiter) => Ok(Some(delimiter)),
         None => usual_delimiter(alloc, collapse(element)),
     }
@@ -103,8 +103,8 @@ pub(crate) fn citation(
         ≡ specs.citation (words_view words.now) (element_view element.now)) }
 {
     let cite_group_delimiter = group_delimiter(alloc, element)?;
-    let after_collapse_delimiter = optional_text(alloc, "after-collapse-delimiter", element)?;
-    let year_suffix_delimiter = optional_text(alloc, "year-suffix-delimiter", element)?;
+    let after_collapse_delimiter = printed(alloc, "after-collapse-delimiter", element)?;
+    let year_suffix_delimiter = printed(alloc, "year-suffix-delimiter", element)?;
     let name_options = name_options(alloc, "name-form", "name-delimiter", element)?;
     let layout = layout_in(alloc, words, element)?;
     Ok(Citation {
@@ -124,5 +124,6 @@ pub(crate) fn citation(
         same_entry_is_no_rival: true,
         suffixes_by_number: true,
         raises_names_first: raises_names_first(element),
+        gathers_by_text: true,
     })
 }

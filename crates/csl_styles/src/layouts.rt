@@ -7,7 +7,7 @@ ghost use Rattle.csl_nodes.specs.Views.{words_view};
 ghost use Rattle.csl_styles.specs.Layouts.{layout, empty_layout, layout_in};
 
 use csl_nodes::{Words, formatting, nodes_inside};
-use csl_words::{optional_text, part_called};
+use csl_words::{part_called, printed};
 use rendering_style::Layout;
 use rendering_taxonomy::FormattingChanges;
 use std::alloc::{AllocError, Global};
@@ -18,9 +18,9 @@ fn layout(alloc: Global, words: &Words, element: &Element<'_>) -> Result<Layout,
     ensures { IfOk result (λ l. layout_view l
         ≡ layout (words_view words.now) (element_view element.now)) }
 {
-    let prefix = optional_text(alloc, "prefix", element)?;
-    let suffix = optional_text(alloc, "suffix", element)?;
-    let delimiter = optional_text(alloc, "delimiter", element)?;
+    let prefix = printed(alloc, "prefix", element)?;
+    let suffix = printed(alloc, "suffix", element)?;
+    let delimiter = printed(alloc, "delimiter", element)?;
     let nodes = nodes_inside(alloc, words, element)?;
     Ok(Layout {
         nodes,

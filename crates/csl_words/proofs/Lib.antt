@@ -1,3 +1,4 @@
 pub mod Kept
 pub mod Words
 pub mod Opened
+pub mod Spacing

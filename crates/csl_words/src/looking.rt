@@ -1,17 +1,16 @@
 //! What tables have for texts, and what the attributes of an element say.
 
-ghost use Rattle.std.specs.Prelude.{◌≡◌, map, IfOk};
+ghost use Rattle.std.specs.Prelude.{◌≡◌, map};
 ghost use Rattle.std.specs.Option.{option_map};
 ghost use Rattle.std.specs.Str.{chars, bytes_eq};
-ghost use Rattle.laws.specs.Text.{text as text_of_characters, characters, spelled};
+ghost use Rattle.laws.specs.Text.{text as text_of_characters, spelled};
 ghost use Rattle.texts.specs.Views.{left};
 ghost use Rattle.xml_text.specs.Views.{placed_view};
 ghost use Rattle.xml_tree.specs.Views.{attribute_view, element_view};
 ghost use Rattle.csl_words.specs.Looking.{table_view, in_table, value_among, attribute, text_of, says, value_by, is_set, is_true, whole_number, number_in, number};
 
 use crate::options::BOOLEANS;
-use std::alloc::{AllocError, Global};
-use texts::{Reader, empty_text, or_empty, owned};
+use texts::{Reader, or_empty};
 use xml_schema::has_name;
 use xml_text::Placed;
 use xml_tree::{Attribute, Element};
@@ -70,37 +69,6 @@ pub(crate) fn value_of<'e>(name: &str, element: &'e Element<'_>) -> &'e str
     ensures { spelled result ≡ text_of name.now (element_view element.now) }
 {
     or_empty(attribute(name, element))
-}
-
-/// A copy of the value of an attribute, empty where there is none.
-///
-/// # Errors
-/// Where a request for memory was refused.
-pub fn text_of(alloc: Global, name: &str, element: &Element<'_>) -> Result<String, AllocError>
-    ensures { IfOk result (λ s. characters s ≡ text_of name.now (element_view element.now)) }
-{
-    match attribute(name, element) {
-        Some(value) => owned(alloc, value),
-        None => Ok(empty_text(alloc)),
-    }
-}
-
-/// A copy of the value of an attribute.
-///
-/// # Errors
-/// Where a request for memory was refused.
-pub fn optional_text(
-    alloc: Global,
-    name: &str,
-    element: &Element<'_>,
-) -> Result<Option<String>, AllocError>
-    ensures { IfOk result (λ s. option_map characters s
-        ≡ attribute name.now (element_view element.now)) }
-{
-    match attribute(name, element) {
-        Some(value) => Ok(Some(owned(alloc, value)?)),
-        None => Ok(None),
-    }
 }
 
 /// Whether the value of an attribute is this word.

@@ -80,15 +80,19 @@ module _ {X : Type 0} (c : Citation) (P : Gathered X → Type 0) where
   collapsed_all (Some collapses.YearSuffix) bs h = each_year collapses.YearSuffix bs h
   collapsed_all (Some collapses.YearSuffixRanged) bs h = each_year collapses.YearSuffixRanged bs h
 
-  gathered_one : (xs : List (Gathered X)) → AllByRecursion P xs → (p : ℕ × Gathered X) → P p.1 → AllByRecursion (AllByRecursion P) (gathered_at is_of_block xs p)
-  gathered_one xs h (i, y) g =
-      either_all (AllByRecursion P) (list_any (is_of_block y) (take i xs)) [] ((y ∷ filter (is_of_block y) (drop (i + 1) xs)) ∷ []) tt
-      ((g, filter_all P (is_of_block y) (drop (i + 1) xs) (drop_all P (i + 1) xs h)), tt)
+  -- whether two cites are of one block
+  abbrev same : Gathered X → Gathered X → Bool
+  same = is_of_block c.gathers_by_text
 
-  blocks_all : (b : Bool) (xs : List (Gathered X)) → AllByRecursion P xs → AllByRecursion (AllByRecursion P) (if b then gathered is_of_block xs else map (λ x. x ∷ []) xs)
+  gathered_one : (xs : List (Gathered X)) → AllByRecursion P xs → (p : ℕ × Gathered X) → P p.1 → AllByRecursion (AllByRecursion P) (gathered_at same xs p)
+  gathered_one xs h (i, y) g =
+      either_all (AllByRecursion P) (list_any (same y) (take i xs)) [] ((y ∷ filter (same y) (drop (i + 1) xs)) ∷ []) tt
+      ((g, filter_all P (same y) (drop (i + 1) xs) (drop_all P (i + 1) xs h)), tt)
+
+  blocks_all : (b : Bool) (xs : List (Gathered X)) → AllByRecursion P xs → AllByRecursion (AllByRecursion P) (if b then gathered same xs else map (λ x. x ∷ []) xs)
   blocks_all true xs h =
-      flat_all (AllByRecursion P) (gathered_at is_of_block xs) (enumerate_from 0 xs)
-      (weaker_all (λ (p : ℕ × Gathered X). P p.1) (λ p. AllByRecursion (AllByRecursion P) (gathered_at is_of_block xs p)) (gathered_one xs h) (enumerate_from 0 xs) (enumerate_all P 0 xs h))
+      flat_all (AllByRecursion P) (gathered_at same xs) (enumerate_from 0 xs)
+      (weaker_all (λ (p : ℕ × Gathered X). P p.1) (λ p. AllByRecursion (AllByRecursion P) (gathered_at same xs p)) (gathered_one xs h) (enumerate_from 0 xs) (enumerate_all P 0 xs h))
   blocks_all false xs h = map_all (AllByRecursion P) (λ x. x ∷ []) xs (weaker_all P (λ x. AllByRecursion P (x ∷ [])) (λ x g. (g, tt)) xs h)
 
   -- what holds of all cites that are gathered

@@ -116,27 +116,31 @@ module _ {X : Type 0} (c : Citation) (w : Gathered X → ℕ) where
   count_collapsed (Some collapses.YearSuffix) bs = count_tested weight w has_later (block_by c collapses.YearSuffix) (count_mode collapses.YearSuffix) bs
   count_collapsed (Some collapses.YearSuffixRanged) bs = count_tested weight w has_later (block_by c collapses.YearSuffixRanged) (count_mode collapses.YearSuffixRanged) bs
 
-  count_put : (x : Gathered X) (bs : List (List (Gathered X))) → sum_by w (flattened (put_in is_of_block x bs)) ≡ sum_by w (flattened bs) + w x
-  count_put x [] = refl
-  count_put x (b ∷ bs) = put_either w x b bs (put_in is_of_block x bs) (takes is_of_block b x) (count_put x bs)
+  -- whether two cites are of one block
+  abbrev same : Gathered X → Gathered X → Bool
+  same = is_of_block c.gathers_by_text
 
-  count_more : (xs ys : List (Gathered X)) → sum_by w (flattened (gathered is_of_block (xs ++ ys))) ≡ sum_by w (flattened (gathered is_of_block xs)) + sum_by w ys
+  count_put : (x : Gathered X) (bs : List (List (Gathered X))) → sum_by w (flattened (put_in same x bs)) ≡ sum_by w (flattened bs) + w x
+  count_put x [] = refl
+  count_put x (b ∷ bs) = put_either w x b bs (put_in same x bs) (takes same b x) (count_put x bs)
+
+  count_more : (xs ys : List (Gathered X)) → sum_by w (flattened (gathered same (xs ++ ys))) ≡ sum_by w (flattened (gathered same xs)) + sum_by w ys
   count_more xs [] =
-      let e : sum_by w (flattened (gathered is_of_block (xs ++ []))) ≡ sum_by w (flattened (gathered is_of_block xs)) = ap (λ zs. sum_by w (flattened (gathered is_of_block zs))) (append-nil xs) in
+      let e : sum_by w (flattened (gathered same (xs ++ []))) ≡ sum_by w (flattened (gathered same xs)) = ap (λ zs. sum_by w (flattened (gathered same zs))) (append-nil xs) in
       omega (arith, e)
   count_more xs (y ∷ ys) =
-      let all : sum_by w (flattened (gathered is_of_block (xs ++ y ∷ ys))) ≡ sum_by w (flattened (gathered is_of_block ((xs ++ y ∷ []) ++ ys))) =
-      ap (λ zs. sum_by w (flattened (gathered is_of_block zs))) (sym (append_assoc xs (y ∷ []) ys)) in
-      let one : sum_by w (flattened (gathered is_of_block (xs ++ y ∷ []))) ≡ sum_by w (flattened (gathered is_of_block xs)) + w y =
-      ap (λ bs. sum_by w (flattened bs)) (block-last xs y) ∙ count_put y (gathered is_of_block xs) in
+      let all : sum_by w (flattened (gathered same (xs ++ y ∷ ys))) ≡ sum_by w (flattened (gathered same ((xs ++ y ∷ []) ++ ys))) =
+      ap (λ zs. sum_by w (flattened (gathered same zs))) (sym (append_assoc xs (y ∷ []) ys)) in
+      let one : sum_by w (flattened (gathered same (xs ++ y ∷ []))) ≡ sum_by w (flattened (gathered same xs)) + w y =
+      ap (λ bs. sum_by w (flattened bs)) (block-last c.gathers_by_text xs y) ∙ count_put y (gathered same xs) in
       omega (arith, all, one, count_more (xs ++ y ∷ []) ys, sum_by-cons w y ys)
 
   count_alone : (xs : List (Gathered X)) → sum_by w (flattened (map (λ x. x ∷ []) xs)) ≡ sum_by w xs
   count_alone [] = refl
   count_alone (x ∷ xs) = count_cons w w x x (flattened (map (λ y. y ∷ []) xs)) xs refl (count_alone xs)
 
-  count_blocks : (b : Bool) (xs : List (Gathered X)) → sum_by w (flattened (cond b (gathered is_of_block xs) (map (λ x. x ∷ []) xs))) ≡ sum_by w xs
-  count_blocks true xs = let e : sum_by w (flattened (gathered is_of_block xs)) ≡ 0 + sum_by w xs = count_more [] xs in omega (arith, e)
+  count_blocks : (b : Bool) (xs : List (Gathered X)) → sum_by w (flattened (cond b (gathered same xs) (map (λ x. x ∷ []) xs))) ≡ sum_by w xs
+  count_blocks true xs = let e : sum_by w (flattened (gathered same xs)) ≡ 0 + sum_by w xs = count_more [] xs in omega (arith, e)
   count_blocks false xs = count_alone xs
 
   -- arranged cites come to what they came to when they were gathered

@@ -158,8 +158,9 @@ module _ {X Y : Type 0} (f : X → Y) (c : Citation) where
 
   blocks_renamed : (xs : List (Gathered X)) → blocks c (map (gathered_as f) xs) ≡ map (map (gathered_as f)) (blocks c xs)
   blocks_renamed xs =
-      blocks_if (gathered_as f) (gathers c) (gathered is_of_block xs) (map (λ x. x ∷ []) xs) (gathered is_of_block (map (gathered_as f) xs)) (map (λ x. x ∷ []) (map (gathered_as f) xs))
-      (gathered_renamed (gathered_as f) is_of_block xs) (alone_renamed (gathered_as f) xs)
+      blocks_if (gathered_as f) (gathers c) (gathered (is_of_block c.gathers_by_text) xs) (map (λ x. x ∷ []) xs)
+      (gathered (is_of_block c.gathers_by_text) (map (gathered_as f) xs)) (map (λ x. x ∷ []) (map (gathered_as f) xs))
+      (gathered_renamed (gathered_as f) (is_of_block c.gathers_by_text) xs) (alone_renamed (gathered_as f) xs)
 
   -- cites that are known in another way are arranged alike
   pub arranged_renamed : (some_purpose : Bool) (xs : List (Gathered X)) → arranged c some_purpose (map (gathered_as f) xs) ≡ map (arranged_as f) (arranged c some_purpose xs)

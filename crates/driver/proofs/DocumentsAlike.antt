@@ -8,7 +8,7 @@ use Rattle.std.proofs.Math.Path.{fun_ext}
 use Rattle.rendering_context.specs.Cites.{DisambiguateState, undisambiguated}
 use Rattle.rendering_entries.specs.Answers.{Answers}
 use Rattle.rendering_nodes.specs.Named.{AreAlike, Named, always_named, joined_named}
-use Rattle.rendering_nodes.proofs.AnswersAlike.{first_alike, others_alike}
+use Rattle.rendering_nodes.proofs.AnswersAlike.{first_alike, first_named, others_named}
 use Rattle.rendering_style.specs.Styles.{Bibliography}
 use Rattle.rendering_taxonomy.specs.declared.variable.DateVariable.TheVariants as date
 use Rattle.rendering_taxonomy.specs.declared.variable.Variable.TheVariants as variables
@@ -18,7 +18,8 @@ use Rattle.rendering.specs.Alike.{named_in_bibliography, style_named}
 use Rattle.rendering.specs.Purposes as purposes
 use Rattle.rendering_context.specs.Contexts.{StyleContext}
 use Rattle.rendering.specs.Purposes.{bibliography, citation}
-use Rattle.rendering.proofs.CitesAlike.{cites_alike, items_alike}
+use Rattle.rendering.specs.Words.{joining_quotes}
+use Rattle.rendering.proofs.CitesAlike.{cites_alike, items_alike, layouts_alike}
 use Rattle.driver_requests.specs.Cites.{Cite, Numbered, cite_at, cites_after, cites_of, entry_of, properties_of}
 use Rattle.driver_requests.specs.Errors.{overflow}
 use Rattle.driver_requests.specs.Order.{cited, numbers_overflow}
@@ -34,9 +35,12 @@ use Rattle.driver_rounds.specs.Documents.{Document, order_in}
 use Rattle.driver.specs.Finish.{citation_in, finish, is_final_of, item_of_cite, item_of_entry, item_properties, rendered_from, shown}
 use Rattle.driver.specs.Renaming.{arranged_as, gathered_as}
 use Rattle.driver.specs.Stages.{Final, arranged_for, cite_of, final, finals_in, first_print_of, gathered_by, has_purpose, located, state_for, printed_at_last}
-use Rattle.driver_rounds.specs.FirstPrints.{FirstPrint, candidate, disambiguated_in, first_print, first_prints_in, flattened, has_suffix_date, numbered_after, printed_by, purpose_at_first}
+use Rattle.driver_rounds.specs.FirstPrints.{FirstPrint, candidate, disambiguated_in, first_print, first_prints_in, first_states_in, flattened, has_suffix_date, named_after, numbered_after, numbered_in, printed_by, printed_undisambiguated, purpose_at_first, with_first_names}
+use Rattle.driver_names.specs.FirstNames.{first_names}
+use Rattle.driver_names.specs.Prints.{printed_as}
+use Rattle.driver_disambiguation.specs.States.{States, states_after, undisambiguated_states}
 use Rattle.driver.proofs.ArrangedRenamed.{arranged_renamed}
-use Rattle.driver.proofs.DocumentsRenamed.{adds_same, cited_same, numbered_same, numbered_with, order_same, purpose_same}
+use Rattle.driver.proofs.DocumentsRenamed.{adds_same, cited_same, numbered_same, numbered_with, order_same, purpose_same, rule_same}
 use Rattle.driver.proofs.FinalPrintsOf.{finals_all, prints_all}
 use Rattle.driver.proofs.Maps.{flat_maps, map_map, maps_of_maps}
 use Rattle.driver.proofs.Members.{both_all, flat_all, map_all, previous_all, weaker_all}
@@ -50,7 +54,7 @@ nine_named = refl
 -- the dates that make year suffixes possible
 suffix_dates_alike : (x : StyleContext) (a b : Answers) → AreAlike (style_named x.style) a b → has_suffix_date a ≡ has_suffix_date b
 suffix_dates_alike x a b h =
-    let always = first_alike always_named (joined_named _ (named_in_bibliography x.style x.style.bibliography)) a b h in
+    let always = first_alike always_named (joined_named _ (named_in_bibliography x.style x.style.bibliography)) a b (layouts_alike x.style a b h) in
     let issued = always.variables (variables.Date date.Issued) (2, omega (arith, nine_named), refl) in
     let accessed = always.variables (variables.Date date.Accessed) (3, omega (arith, nine_named), refl) in
     let available = always.variables (variables.Date date.AvailableDate) (4, omega (arith, nine_named), refl) in
@@ -89,6 +93,7 @@ module _ {P : Type 0} (answers : ℕ → Answers) where
       let dates = sym (suffix_dates_alike b.numbered.cite.context b.numbered.cite.item.entry.answers (answers (entry_of b.numbered.cite)) h) in
       λ k. record {
         entry = entry_of b.numbered.cite;
+        number = b.numbered.number;
         has_date = dates k;
         style = b.numbered.cite.context.style.citation;
         printed = printed k;
@@ -150,7 +155,7 @@ module _ {P : Type 0} (answers : ℕ → Answers) where
   all_shown (f ∷ fs) h = λ k. shown_alike f h.0 k ++ all_shown fs h.1 k
 
   citation_alike : (r : Request P) (fs : List (Final P)) → AllByRecursion OfFinal fs → citation_in (request_with answers r, map final_with fs) ≡ citation_in (r, fs)
-  citation_alike r fs h = λ k. record { note_number = r.note_number; tree = citation_of r.context.style.citation.layout (purpose_same answers r k) (all_shown fs h k) }
+  citation_alike r fs h = λ k. record { note_number = r.note_number; tree = citation_of (joining_quotes r.context) r.context.style.citation.layout (purpose_same answers r k) (all_shown fs h k) }
 
   citations_alike : (rs : List (Request P)) (fss : List (List (Final P))) → AllByRecursion (AllByRecursion OfFinal) fss → map citation_in (zip (map (request_with answers) rs) (map (map final_with) fss)) ≡ map citation_in (zip rs fss)
   citations_alike [] fss h = refl
@@ -197,7 +202,7 @@ module _ {P : Type 0} (answers : ℕ → Answers) where
       of_first : (Q : Cite P → Type 0) → AllByRecursion (AllByRecursion Q) (cites_of d.requests) → AllByRecursion (AllByRecursion (λ (b : FirstPrint P). Q b.numbered.cite)) (first_prints_in same d)
       of_first Q k = prints_all same d Q (λ (b : FirstPrint P). Q b.numbered.cite) at k
         where
-          at : (p : Option (Cite P) × Cite P) → Q p.1 → Q (first_print (numbered_after same d p)).numbered.cite
+          at : (p : Option (Cite P) × Cite P) → Q p.1 → Q (first_print (named_after same d p)).numbered.cite
           at (last, c) l = l
 
       -- and of it in the final order
@@ -207,26 +212,72 @@ module _ {P : Type 0} (answers : ℕ → Answers) where
           at : (p : Option (Arranged (FirstPrint P)) × Arranged (FirstPrint P)) → Q (first_print_of p.1).numbered.cite → Q (cite_of (final same t p))
           at (last, a) l = l
 
-      numbered_known : AllByRecursion (AllByRecursion (λ (n : Numbered P). first_print (numbered_with answers n) ≡ first_with (first_print n))) (map (map (numbered_after same d)) (with_previous None (cites_of d.requests)))
+      numbered_known : AllByRecursion (AllByRecursion (λ (n : Numbered P). first_print (numbered_with answers n) ≡ first_with (first_print n))) (map (map (named_after same d)) (with_previous None (cites_of d.requests)))
       numbered_known =
-          map_all (AllByRecursion (λ (n : Numbered P). first_print (numbered_with answers n) ≡ first_with (first_print n))) (map (numbered_after same d)) (with_previous None (cites_of d.requests))
-          (weaker_all (AllByRecursion (λ (p : Option (Cite P) × Cite P). IsAlike p.1)) (λ ps. AllByRecursion (λ (n : Numbered P). first_print (numbered_with answers n) ≡ first_with (first_print n)) (map (numbered_after same d) ps))
-          (λ ps l. map_all (λ (n : Numbered P). first_print (numbered_with answers n) ≡ first_with (first_print n)) (numbered_after same d) ps
-          (weaker_all (λ (p : Option (Cite P) × Cite P). IsAlike p.1) (λ p. first_print (numbered_with answers (numbered_after same d p)) ≡ first_with (first_print (numbered_after same d p))) at ps l)) (with_previous None (cites_of d.requests)) (previous_all IsAlike None (cites_of d.requests) h))
+          map_all (AllByRecursion (λ (n : Numbered P). first_print (numbered_with answers n) ≡ first_with (first_print n))) (map (named_after same d)) (with_previous None (cites_of d.requests))
+          (weaker_all (AllByRecursion (λ (p : Option (Cite P) × Cite P). IsAlike p.1)) (λ ps. AllByRecursion (λ (n : Numbered P). first_print (numbered_with answers n) ≡ first_with (first_print n)) (map (named_after same d) ps))
+          (λ ps l. map_all (λ (n : Numbered P). first_print (numbered_with answers n) ≡ first_with (first_print n)) (named_after same d) ps
+          (weaker_all (λ (p : Option (Cite P) × Cite P). IsAlike p.1) (λ p. first_print (numbered_with answers (named_after same d p)) ≡ first_with (first_print (named_after same d p))) at ps l)) (with_previous None (cites_of d.requests)) (previous_all IsAlike None (cites_of d.requests) h))
         where
-          at : (p : Option (Cite P) × Cite P) → IsAlike p.1 → first_print (numbered_with answers (numbered_after same d p)) ≡ first_with (first_print (numbered_after same d p))
-          at (last, c) l = first_alike_one (numbered_after same d (last, c)) l
+          at : (p : Option (Cite P) × Cite P) → IsAlike p.1 → first_print (numbered_with answers (named_after same d p)) ≡ first_with (first_print (named_after same d p))
+          at (last, c) l = first_alike_one (named_after same d (last, c)) l
+
+      -- what a cite prints undisambiguated is the same
+      undisambiguated_alike : (n : Numbered P) → first_print (numbered_with answers n) ≡ first_with (first_print n) → OfAlike (first_print n) → printed_undisambiguated (numbered_with answers n) ≡ printed_undisambiguated n
+      undisambiguated_alike n e l =
+          let known : candidate (first_print (numbered_with answers n)) ≡ candidate (first_print n) = ap candidate e ∙ candidate_alike (first_print n) l in
+          let tree : (printed_by (numbered_with answers n) undisambiguated).tree ≡ (printed_by n undisambiguated).tree = ap (λ (b : FirstPrint P). b.rendered.tree) e in
+          λ k. printed_as (known k) undisambiguated (tree k)
+
+      -- so are the states by first names
+      states_first_alike : first_states_in same (document_with answers d) ≡ first_states_in same d
+      states_first_alike =
+          let nss = numbered_in same d in
+          let numbered : map printed_undisambiguated (flattened (numbered_in same (document_with answers d))) ≡ map printed_undisambiguated (flattened nss) =
+          ap (λ mss. map printed_undisambiguated (flattened mss)) (numbered_same answers same d)
+          ∙ ap (map printed_undisambiguated) (flat_maps (numbered_with answers) nss)
+          ∙ map_map printed_undisambiguated (numbered_with answers) (flattened nss)
+          ∙ map_same (λ n. printed_undisambiguated (numbered_with answers n)) printed_undisambiguated (flattened nss)
+          (flat_all (λ (n : Numbered P). printed_undisambiguated (numbered_with answers n) ≡ printed_undisambiguated n) (λ ns. ns) nss undisambiguated_known) in
+          λ k. option_map (λ r. states_after (first_names r (numbered k)) (undisambiguated_states (length (cited_same answers d.requests k)))) (rule_same answers d.requests k)
+        where
+          at : (p : Option (Cite P) × Cite P) → IsAlike p.1 → printed_undisambiguated (numbered_with answers (numbered_after same d p)) ≡ printed_undisambiguated (numbered_after same d p)
+          at (last, c) l = undisambiguated_alike (numbered_after same d (last, c)) (first_alike_one (numbered_after same d (last, c)) l) l
+
+          undisambiguated_known : AllByRecursion (AllByRecursion (λ (n : Numbered P). printed_undisambiguated (numbered_with answers n) ≡ printed_undisambiguated n)) (numbered_in same d)
+          undisambiguated_known =
+              map_all (AllByRecursion (λ (n : Numbered P). printed_undisambiguated (numbered_with answers n) ≡ printed_undisambiguated n)) (map (numbered_after same d)) (with_previous None (cites_of d.requests))
+              (weaker_all (AllByRecursion (λ (p : Option (Cite P) × Cite P). IsAlike p.1)) (λ ps. AllByRecursion (λ (n : Numbered P). printed_undisambiguated (numbered_with answers n) ≡ printed_undisambiguated n) (map (numbered_after same d) ps))
+              (λ ps l. map_all (λ (n : Numbered P). printed_undisambiguated (numbered_with answers n) ≡ printed_undisambiguated n) (numbered_after same d) ps
+              (weaker_all (λ (p : Option (Cite P) × Cite P). IsAlike p.1) (λ p. printed_undisambiguated (numbered_with answers (numbered_after same d p)) ≡ printed_undisambiguated (numbered_after same d p)) at ps l)) (with_previous None (cites_of d.requests)) (previous_all IsAlike None (cites_of d.requests) h))
+
+      named_one : (ss : Option States) (n : Numbered P) → with_first_names ss (numbered_with answers n) ≡ numbered_with answers (with_first_names ss n)
+      named_one None n = refl
+      named_one (Some ss) n = refl
+
+      -- cites have the same first names
+      named_same : map (map (named_after same (document_with answers d))) (with_previous None (cites_of (document_with answers d).requests)) ≡ map (map (numbered_with answers)) (map (map (named_after same d)) (with_previous None (cites_of d.requests)))
+      named_same =
+          let pairs = with_previous None (cites_of d.requests) in
+          let others = with_previous None (cites_of (document_with answers d).requests) in
+          let ss = first_states_in same d in
+          maps_of_maps (with_first_names (first_states_in same (document_with answers d))) (numbered_after same (document_with answers d)) others
+          ∙ (λ k. map (map (with_first_names (states_first_alike k))) (numbered_same answers same d k))
+          ∙ sym (maps_of_maps (with_first_names ss) (numbered_with answers) (map (map (numbered_after same d)) pairs))
+          ∙ ap (λ (f : Numbered P → Numbered P). map (map f) (map (map (numbered_after same d)) pairs)) (fun_ext (named_one ss))
+          ∙ maps_of_maps (numbered_with answers) (with_first_names ss) (map (map (numbered_after same d)) pairs)
+          ∙ ap (map (map (numbered_with answers))) (sym (maps_of_maps (with_first_names ss) (numbered_after same d) pairs))
 
       firsts_alike : first_prints_in same (document_with answers d) ≡ map (map first_with) (first_prints_in same d)
       firsts_alike =
           let pairs = with_previous None (cites_of d.requests) in
           let others = with_previous None (cites_of (document_with answers d).requests) in
-          maps_of_maps first_print (numbered_after same (document_with answers d)) others
-          ∙ ap (map (map first_print)) (numbered_same answers same d)
-          ∙ sym (maps_of_maps first_print (numbered_with answers) (map (map (numbered_after same d)) pairs))
-          ∙ maps_same (λ n. first_print (numbered_with answers n)) (λ n. first_with (first_print n)) (map (map (numbered_after same d)) pairs) numbered_known
-          ∙ maps_of_maps first_with first_print (map (map (numbered_after same d)) pairs)
-          ∙ ap (map (map first_with)) (sym (maps_of_maps first_print (numbered_after same d) pairs))
+          maps_of_maps first_print (named_after same (document_with answers d)) others
+          ∙ ap (map (map first_print)) named_same
+          ∙ sym (maps_of_maps first_print (numbered_with answers) (map (map (named_after same d)) pairs))
+          ∙ maps_same (λ n. first_print (numbered_with answers n)) (λ n. first_with (first_print n)) (map (map (named_after same d)) pairs) numbered_known
+          ∙ maps_of_maps first_with first_print (map (map (named_after same d)) pairs)
+          ∙ ap (map (map first_with)) (sym (maps_of_maps first_print (named_after same d) pairs))
 
       candidates_alike : map candidate (flattened (first_prints_in same (document_with answers d))) ≡ map candidate (flattened (first_prints_in same d))
       candidates_alike =
@@ -264,9 +315,9 @@ module _ {P : Type 0} (answers : ℕ → Answers) where
   all_own named earlier (r ∷ rs) h =
       let two = both_all (HasAlike (requests_named named (r ∷ rs)) answers) r.items (flat_map (λ (q : Request P). q.items) rs) h in
       let here = weaker_all (HasAlike (requests_named named (r ∷ rs)) answers) (HasAlike (style_named r.context.style) answers)
-      (λ i k. first_alike (style_named r.context.style) (requests_named named rs) i.entry.answers (answers i.entry.index) k) r.items two.0 in
+      (λ i k. first_named (style_named r.context.style) (requests_named named rs) i.entry.answers (answers i.entry.index) k) r.items two.0 in
       let others = weaker_all (HasAlike (requests_named named (r ∷ rs)) answers) (HasAlike (requests_named named rs) answers)
-      (λ i k. others_alike (style_named r.context.style) (requests_named named rs) i.entry.answers (answers i.entry.index) k) (flat_map (λ (q : Request P). q.items) rs) two.1 in
+      (λ i k. others_named (style_named r.context.style) (requests_named named rs) i.entry.answers (answers i.entry.index) k) (flat_map (λ (q : Request P). q.items) rs) two.1 in
       (run_own earlier r 0 r.items here, all_own named (earlier ++ r ∷ []) rs others)
 
   run_listed : (x : StyleContext) (earlier : List (Request P)) (r : Request P) (n : ℕ) (is : List (Item P)) → AllByRecursion (HasAlike (style_named x.style) answers) is → AllByRecursion (IsListed answers x) (map (cite_at earlier r) (enumerate_from n is))
@@ -282,7 +333,7 @@ module _ {P : Type 0} (answers : ℕ → Answers) where
 
   last_style : (x : StyleContext) (rs : List (Request P)) (i : Item P) → HasAlike (requests_named (style_named x.style) rs) answers i → HasAlike (style_named x.style) answers i
   last_style x [] i h = h
-  last_style x (r ∷ rs) i h = last_style x rs i (others_alike (style_named r.context.style) (requests_named (style_named x.style) rs) i.entry.answers (answers i.entry.index) h)
+  last_style x (r ∷ rs) i h = last_style x rs i (others_named (style_named r.context.style) (requests_named (style_named x.style) rs) i.entry.answers (answers i.entry.index) h)
 
   -- so other answers that are alike in what styles name change nothing
   pub alike_answers : (same : P → P → Bool) (d : Document P) → AreAlikeIn d answers → finish same (document_with answers d) ≡ finish same d

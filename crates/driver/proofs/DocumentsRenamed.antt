@@ -8,10 +8,10 @@ use Rattle.rendering_entries.specs.Answers.{Answers}
 use Rattle.driver_requests.specs.CitedEntries.{once}
 use Rattle.driver_requests.specs.Cites.{Cite, Numbered, cite_at, cites_after, cites_of, entry_of, first_note, is_cited_before, is_near, last_n, note_citing, request_cites}
 use Rattle.driver_requests.specs.Order.{cited, number_in, ordered}
-use Rattle.driver_requests.specs.Positions.{counts_at_first, ibid_after, with_previous}
+use Rattle.driver_requests.specs.Positions.{counts_at_first, ibid_of, place_of, with_previous}
 use Rattle.driver_requests.specs.Requests.{Item, Request, cites_entry}
 use Rattle.driver_rounds.specs.Documents.{Document, order_in}
-use Rattle.driver_rounds.specs.FirstPrints.{adds_names, numbered_after}
+use Rattle.driver_rounds.specs.FirstPrints.{adds_names, first_rule, numbered_after}
 use Rattle.driver.specs.Stages.{has_purpose}
 use Rattle.driver.proofs.Maps.{any_map, any_same, enumerate_map, map_map, placed}
 use Rattle.driver.specs.Alike.{document_with, item_with, request_with}
@@ -89,6 +89,10 @@ module _ {P : Type 0} (answers : ℕ → Answers) where
   adds_same [] = refl
   adds_same (r ∷ rs) = refl
 
+  pub rule_same : (rs : List (Request P)) → first_rule (map (request_with answers) rs) ≡ first_rule rs
+  rule_same [] = refl
+  rule_same (r ∷ rs) = refl
+
   -- the same items have a purpose
   pub purpose_same : (r : Request P) → has_purpose (request_with answers r) ≡ has_purpose r
   purpose_same r = any_map (item_with answers) (λ (i : Item P). is_some i.purpose) r.items
@@ -99,8 +103,8 @@ module _ {P : Type 0} (answers : ℕ → Answers) where
     order_same = ap (ordered d.bibliography_context.style.bibliography d.wanted) (cited_same d.requests)
 
     numbered_one : (p : Option (Cite P) × Cite P) → numbered_after same (document_with answers d) (after cite_with p) ≡ numbered_with (numbered_after same d p)
-    numbered_one (None, c) = λ k. record { cite = cite_with c; number = number_in d.offset (order_same k) (entry_of c); ibid = ibid_after same counts_at_first None c.item }
-    numbered_one (Some l, c) = λ k. record { cite = cite_with c; number = number_in d.offset (order_same k) (entry_of c); ibid = ibid_after same counts_at_first (Some l.item) c.item }
+    numbered_one (None, c) = λ k. record { cite = cite_with c; number = number_in d.offset (order_same k) (entry_of c); ibid = ibid_of same counts_at_first None c; first_names = [] }
+    numbered_one (Some l, c) = λ k. record { cite = cite_with c; number = number_in d.offset (order_same k) (entry_of c); ibid = ibid_of same counts_at_first (Some (place_of l)) c; first_names = [] }
 
     -- cites have the same numbers
     pub numbered_same : map (map (numbered_after same (document_with answers d))) (with_previous None (cites_of (document_with answers d).requests)) ≡ map (map numbered_with) (map (map (numbered_after same d)) (with_previous None (cites_of d.requests)))

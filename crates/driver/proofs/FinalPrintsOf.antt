@@ -9,16 +9,16 @@ use Rattle.driver_blocks.specs.Blocks.{Gathered}
 use Rattle.driver_blocks.specs.Runs.{Arranged}
 use Rattle.driver_rounds.specs.Documents.{Document}
 use Rattle.driver.specs.Stages.{Final, arranged_for, final, first_print_of, gathered_by, has_purpose}
-use Rattle.driver_rounds.specs.FirstPrints.{FirstPrint, first_print, first_prints_in, numbered_after}
+use Rattle.driver_rounds.specs.FirstPrints.{FirstPrint, first_print, first_prints_in, named_after}
 use Rattle.driver.proofs.ArrangedCites.{IsOne, arranged_all}
 use Rattle.driver.proofs.Members.{map_all, previous_all, weaker_all, zip_all}
 
 -- all first prints of a document
-pub prints_all : {P : Type 0} (same : P → P → Bool) (d : Document P) (Q : Cite P → Type 0) (R : FirstPrint P → Type 0) → ((p : Option (Cite P) × Cite P) → Q p.1 → R (first_print (numbered_after same d p))) → AllByRecursion (AllByRecursion Q) (cites_of d.requests)
+pub prints_all : {P : Type 0} (same : P → P → Bool) (d : Document P) (Q : Cite P → Type 0) (R : FirstPrint P → Type 0) → ((p : Option (Cite P) × Cite P) → Q p.1 → R (first_print (named_after same d p))) → AllByRecursion (AllByRecursion Q) (cites_of d.requests)
     → AllByRecursion (AllByRecursion R) (first_prints_in same d)
 prints_all {P} same d Q R step h =
     let pairs = with_previous None (cites_of d.requests) in
-    let print : Option (Cite P) × Cite P → FirstPrint P = λ p. first_print (numbered_after same d p) in
+    let print : Option (Cite P) × Cite P → FirstPrint P = λ p. first_print (named_after same d p) in
     map_all (AllByRecursion R) (map print) pairs
     (weaker_all (AllByRecursion (λ (p : Option (Cite P) × Cite P). Q p.1)) (λ ps. AllByRecursion R (map print ps))
     (λ ps g. map_all R print ps (weaker_all (λ (p : Option (Cite P) × Cite P). Q p.1) (λ p. R (print p)) step ps g)) pairs (previous_all Q None (cites_of d.requests) h))

@@ -5,6 +5,7 @@ use Rattle.std.specs.Option.{option_map}
 use Rattle.std.proofs.lemmas.List.{map-append}
 use Rattle.std.proofs.lemmas.List.Sums.{fold-append}
 use Rattle.rendering_entries.specs.Answers.{Answers}
+use Rattle.rendering.specs.Words.{joining_quotes}
 use Rattle.driver_requests.specs.Positions.{with_previous}
 use Rattle.driver_requests.specs.Requests.{Item, Request}
 use Rattle.driver_requests.specs.Views.{item_view, request_view}
@@ -17,7 +18,7 @@ use Rattle.driver_blocks.specs.Runs.{Arranged}
 use Rattle.driver_citations.specs.Citations.{citation_of}
 use Rattle.driver.specs.FinalPrints.{Cited, Listed, Placed, all_finals, cited_with, final_after, finals_from, last_arranged, listed_as, listed_with, placed_with, finals_after}
 use Rattle.driver.specs.Finish.{citation_in, shown}
-use Rattle.driver.specs.Stages.{Final, arranged_for, final, gathered_by, item_arranged}
+use Rattle.driver.specs.Stages.{Final, arranged_for, final, gathered_by, place_arranged}
 use Rattle.driver_rounds.specs.FirstPrints.{FirstPrint, flattened}
 
 -- whether an item has a purpose
@@ -33,21 +34,21 @@ module _ {P : Type 0} (same : P → P → Bool) where
   placed_all states p [] = λ k. record { shown = sym (append-nil p.shown) k; listed = p.listed; last = p.last }
   placed_all states p (a ∷ xs) =
       let f = final_after same states p.last a in
-      let fs = finals_after same states (Some (item_arranged a)) xs in
+      let fs = finals_after same states (Some (place_arranged a)) xs in
       placed_all states (placed_with same states p a) xs
-      ∙ (λ k. record { shown = append_assoc p.shown (shown f) (flat_map shown fs) k; listed = fold listed_with (listed_with p.listed (listed_as f)) (map listed_as fs); last = last_arranged (Some (item_arranged a)) xs })
+      ∙ (λ k. record { shown = append_assoc p.shown (shown f) (flat_map shown fs) k; listed = fold listed_with (listed_with p.listed (listed_as f)) (map listed_as fs); last = last_arranged (Some (place_arranged a)) xs })
 
   run_previous : (t : Disambiguation) (last : Option (Arranged (FirstPrint P))) (xs : List (Arranged (FirstPrint P)))
-      → finals_after same t.states (option_map item_arranged last) xs ≡ map (final same t) (zip (last ∷ map (λ a. Some a) xs) xs)
+      → finals_after same t.states (option_map place_arranged last) xs ≡ map (final same t) (zip (last ∷ map (λ a. Some a) xs) xs)
   run_previous t last [] = refl
   run_previous t last (a ∷ xs) = ap (λ fs. final same t (last, a) ∷ fs) (run_previous t (Some a) xs)
 
-  last_item : (last : Option (Arranged (FirstPrint P))) (xs : List (Arranged (FirstPrint P))) → last_arranged (option_map item_arranged last) xs ≡ option_map item_arranged (last_or last xs)
+  last_item : (last : Option (Arranged (FirstPrint P))) (xs : List (Arranged (FirstPrint P))) → last_arranged (option_map place_arranged last) xs ≡ option_map place_arranged (last_or last xs)
   last_item last [] = refl
   last_item last (a ∷ xs) = last_item (Some a) xs
 
   all_previous : (t : Disambiguation) (last : Option (Arranged (FirstPrint P))) (xss : List (List (Arranged (FirstPrint P))))
-      → all_finals same t.states (option_map item_arranged last) xss ≡ map (map (final same t)) (with_previous last xss)
+      → all_finals same t.states (option_map place_arranged last) xss ≡ map (map (final same t)) (with_previous last xss)
   all_previous t last [] = refl
   all_previous t last (xs ∷ xss) =
       (λ k. run_previous t last xs k ∷ all_finals same t.states (last_item last xs k) xss) ∙ ap (λ fss. map (final same t) (zip (last ∷ map (λ a. Some a) xs) xs) ∷ fss) (all_previous t (last_or last xs) xss)
@@ -103,7 +104,7 @@ module _ {P : Type 0} (same : P → P → Bool) where
 
     citation_alike : (r : CitationRequest T P) (fs : List (Final P)) → citation_in (request_view index answers r, fs) ≡ citation_in (request_view other answers r, fs)
     citation_alike r fs =
-        ap (λ b. record { note_number = r.note_number; tree = citation_of (request_view index answers r).context.style.citation.layout b (flat_map shown fs) }) (purpose_alike r.items.items)
+        ap (λ b. record { note_number = r.note_number; tree = citation_of (joining_quotes (request_view index answers r).context) (request_view index answers r).context.style.citation.layout b (flat_map shown fs) }) (purpose_alike r.items.items)
 
     each_alike : (rs : List (CitationRequest T P)) (fss : List (List (Final P))) → map citation_in (zip (map (request_view index answers) rs) fss) ≡ map citation_in (zip (map (request_view other answers) rs) fss)
     each_alike [] fss = refl

@@ -1,23 +1,23 @@
 -- Requests and their cites, one after the other in the final order.
-use Rattle.std.proofs.Common.{arith, ◌≡◌, ℕ, suc, ◌+◌, ◌<◌, ◌≤◌, Bool, true, false, List, [], ◌∷◌, ◌++◌, All, append_assoc, length, map, drop, get_or, set, fold, zip, slice_get, is_some, true≢false, not, option_map, refl, sym, ap, ◌∙◌, Option, Some, None, Vec}
+use Rattle.std.proofs.Common.{arith, ◌≡◌, ℕ, suc, ◌+◌, ◌<◌, ◌≤◌, Bool, true, List, [], ◌∷◌, ◌++◌, All, append_assoc, length, map, drop, get_or, set, fold, zip, slice_get, is_some, true≢false, not, option_map, refl, sym, ap, ◌∙◌, Option, Some, None, Vec}
+use Rattle.std.specs.Prelude.{IfSome}
 use Rattle.std.specs.List.{cons_option}
 use Rattle.std.specs.Option.{option_or}
-use Rattle.std.proofs.lemmas.List.{drop_all, drop_more, get_or_default, get_or-map, length-map, map-append, map-set}
+use Rattle.std.proofs.lemmas.List.{drop_all, drop_more, get_or-map, length-map, map-append, map-set}
 use Rattle.std.proofs.lemmas.Option.{slice_get-map}
 use Rattle.rendering_context.specs.Cites as cites
 use Rattle.rendering_entries.specs.Answers.{Answers}
 use Rattle.rendering_style.specs.Styles.{Citation}
-use Rattle.rendering_taxonomy.specs.declared.cite.IbidState.TheVariants as ibids
 use Rattle.rendering_taxonomy.specs.declared.cite.IdentifierUsage.TheVariants as usages
 use Rattle.rendering_tree.specs.Trees.{Children}
 use Rattle.rendering.specs.Purposes as purposes
 use Rattle.rendering_context.specs.Contexts.{StyleContext}
 use Rattle.rendering.specs.Purposes.{citation}
 use Rattle.driver_requests.specs.Cites.{properties_of}
-use Rattle.driver_requests.specs.Positions.{ibid_after}
+use Rattle.driver_requests.specs.Positions.{ibid_at}
 use Rattle.driver_requests.specs.Requests.{Item, Request, plain_locator}
 use Rattle.driver_requests.specs.Suffixes.{Suffix}
-use Rattle.driver_requests.specs.Views.{context_of, item_view, request_locator_view, request_view}
+use Rattle.driver_requests.specs.Views.{context_of, item_view, last_view, request_locator_view, request_view}
 use Rattle.driver_requests.specs.declared.item.CitationItem.{CitationItem}
 use Rattle.driver_requests.specs.declared.request.CitationRequest.{CitationRequest}
 use Rattle.driver_names.specs.Prints as prints
@@ -39,7 +39,7 @@ use Rattle.driver_rounds.specs.Views.{printed_by_states, numbered_view, properti
 use Rattle.driver_rounds.specs.declared.cite.NumberedCite.{NumberedCite}
 use Rattle.driver_citations.specs.declared.citation.ShownCite.{ShownCite}
 use Rattle.driver.specs.declared.final_prints.FinalCite.{FinalCite}
-use Rattle.driver.specs.declared.final_prints.LastCite.{LastCite}
+use Rattle.driver_requests.specs.declared.position.LastCite.{LastCite}
 use Rattle.driver.specs.declared.final_prints.ListedCite.{ListedCite}
 
 -- a fold goes on
@@ -102,11 +102,16 @@ module _ {T P : Type 0} (answers : T → Answers) where
   pub prints_end : {A : Type 0} (requests : List (CitationRequest T P)) (vs : List (Vec NumberedCite A)) (n : ℕ) → length requests ≤ n → with_prints (drop n requests) (drop n vs) ≡ []
   prints_end requests vs n past = ap (λ rs. with_prints rs (drop n vs)) (drop_all n requests past)
 
+  -- at last each cite counts
+  pub all_count : (last : Option (LastCite T P)) → IfSome last (λ l. true ≡ counts_at_last (last_view answers l).1)
+  all_count None = tt
+  all_count (Some l) = refl
+
   module _ (x : StyleContext) (c : Citation) (states : States) (same : P → P → Bool) where
     -- one more cite is put after the last
-    pub placed_one : (f : FinalCite T P) (a : arranged.Arranged) (ss new : List Shown) (ls now : List (Option Listed)) (last : Option (Item P)) → f.ibid ≡ ibid_after same counts_at_last last (item_view (λ e. f.cite.entry) answers f.item.now)
+    pub placed_one : (f : FinalCite T P) (a : arranged.Arranged) (ss new : List Shown) (ls now : List (Option Listed)) (last : Option (ℕ × Item P)) → f.ibid ≡ ibid_at same counts_at_last x.style.citation.ibid_after_one f.cite.index last (item_view (λ e. f.cite.entry) answers f.item.now)
         → f.usage ≡ usage_of (numbered_view answers x f.item.now f.cite) → now ≡ listed_with ls (final_listed_view answers states f) → new ≡ ss ++ shown (final_view answers x c states f a)
-        → record { shown = new; listed = now; last = Some (item_view (λ e. f.cite.entry) answers f.item.now) }
+        → record { shown = new; listed = now; last = Some (f.cite.index, item_view (λ e. f.cite.entry) answers f.item.now) }
         ≡ placed_with same states (record { shown = ss; listed = ls; last = last }) (arranged_as (λ n. first_print (numbered_view answers x f.item.now f.cite)) (arranged_view c a))
     placed_one f a ss new ls now last is_ibid is_usage is_listed is_shown =
         let own = arranged_as (λ n. first_print (numbered_view answers x f.item.now f.cite)) (arranged_view c a) in
@@ -114,14 +119,14 @@ module _ {T P : Type 0} (answers : T → Answers) where
         λ j. record { arranged = own; properties = record (properties_of (numbered_view answers x f.item.now f.cite) (state_of states f.cite.entry)) { ibid = is_ibid j } } in
         let listed : final_listed_view answers states f ≡ listed_as (final_after same states last own) =
         λ j. record { index = f.cite.entry; answers = answers f.item.now.entry.now; properties = properties_with f.cite (state_of states f.cite.entry) None (is_ibid j) (is_usage j) } in
-        λ j. record { shown = (is_shown ∙ ap (λ g. ss ++ shown g) final) j; listed = (is_listed ∙ ap (listed_with ls) listed) j; last = Some (item_view (λ e. f.cite.entry) answers f.item.now) }
+        λ j. record { shown = (is_shown ∙ ap (λ g. ss ++ shown g) final) j; listed = (is_listed ∙ ap (listed_with ls) listed) j; last = Some (f.cite.index, item_view (λ e. f.cite.entry) answers f.item.now) }
 
     -- one more cite of those that are arranged
     pub placed_goes_on : (f : FinalCite T P) (a : arranged.Arranged) (prints : List (FirstPrint P)) (xs : List arranged.Arranged) (n : ℕ) (ss new : List ShownCite) (ls now : List (Option (ListedCite T))) (last : Option (LastCite T P)) (own : LastCite T P) (all : Placed P) → n < length xs → a ≡ get_or xs n a
         → slice_get prints a.cite.cite ≡ Some (first_print (numbered_view answers x f.item.now f.cite)) → fold (placed_with same states) (placed_view answers states ss ls last) (arranged_in prints (map (arranged_view c) (drop n xs))) ≡ all
-        → f.ibid ≡ ibid_after same counts_at_last (last_cite_view answers last) (item_view (λ e. f.cite.entry) answers f.item.now) → f.usage ≡ usage_of (numbered_view answers x f.item.now f.cite)
+        → f.ibid ≡ ibid_at same counts_at_last x.style.citation.ibid_after_one f.cite.index (last_cite_view answers last) (item_view (λ e. f.cite.entry) answers f.item.now) → f.usage ≡ usage_of (numbered_view answers x f.item.now f.cite)
         → map (option_map (listed_view answers states)) now ≡ listed_with (map (option_map (listed_view answers states)) ls) (final_listed_view answers states f) → map shown_view new ≡ map shown_view ss ++ shown (final_view answers x c states f a)
-        → item_view (λ e. own.entry) answers own.item.now ≡ item_view (λ e. f.cite.entry) answers f.item.now
+        → last_view answers own ≡ (f.cite.index, item_view (λ e. f.cite.entry) answers f.item.now)
         → fold (placed_with same states) (placed_view answers states new now (Some own)) (arranged_in prints (map (arranged_view c) (drop (n + 1) xs))) ≡ all
     placed_goes_on f a prints xs n ss new ls now last own all less is at h is_ibid is_usage is_listed is_shown is_own =
         let b = first_print (numbered_view answers x f.item.now f.cite) in
@@ -133,7 +138,7 @@ module _ {T P : Type 0} (answers : T → Answers) where
         ∙ placed_one f a (map shown_view ss) new_shown (map (option_map (listed_view answers states)) ls) new_listed (last_cite_view answers last) is_ibid is_usage is_listed is_shown)
 
 -- one more request
-pub cited_one : {P : Type 0} (same : P → P → Bool) (t : Disambiguation) (r : Request P) (bs : List (FirstPrint P)) (cs new : List Printed) (c : Printed) (ls now : List (Option Listed)) (last after : Option (Item P)) → new ≡ cs ++ c ∷ []
+pub cited_one : {P : Type 0} (same : P → P → Bool) (t : Disambiguation) (r : Request P) (bs : List (FirstPrint P)) (cs new : List Printed) (c : Printed) (ls now : List (Option Listed)) (last after : Option (ℕ × Item P)) → new ≡ cs ++ c ∷ []
     → c ≡ citation_in (r, finals_after same t.states last (arranged_for t (r, bs))) → now ≡ fold listed_with ls (map listed_as (finals_after same t.states last (arranged_for t (r, bs)))) → after ≡ last_arranged last (arranged_for t (r, bs))
     → record { citations = new; listed = now; last = after } ≡ cited_with same t (record { citations = cs; listed = ls; last = last }) (r, bs)
 cited_one same t r bs cs new c ls now last after e is is_listed is_last = λ j. record { citations = (e ∙ ap (λ d. cs ++ d ∷ []) is) j; listed = is_listed j; last = is_last j }
@@ -167,20 +172,15 @@ listed_first view xs None one l b less is h on e =
     map-set (option_map view) xs l.index (Some one)
     ∙ (λ k. set (map (option_map view) xs) l.index (option_or (sym none k) (Some (e k))))
 
--- a cite that is not there
-abbrev pub no_cite : NumberedCite
-no_cite = record { entry = 0; index = 0; note_number = None; facts = record { first_note_number = None; is_near_note = false; is_first = false }; number = 0; ibid = ibids.Different }
-
 -- one more cite is gathered
-pub gathered_goes_on : {T P A G : Type 0} (view : G → Gathered ℕ) (year_suffixes : List (Option Suffix)) (view_of : A → prints.Printed) (is : List (CitationItem T P)) (ks : List NumberedCite) (ss : List A) (n : ℕ) (i : CitationItem T P) (d : NumberedCite) (s : A) (now new : List G) (g : G)
-    (all : List (Gathered ℕ)) (tree : Children) (suffix : Option Suffix) → n < length is → n < length ks → n < length ss → i ≡ get_or is n i → s ≡ get_or ss n s
+pub gathered_goes_on : {T P A G : Type 0} (view : G → Gathered ℕ) (year_suffixes : List (Option Suffix)) (view_of : A → prints.Printed) (is : List (CitationItem T P)) (ks : List NumberedCite) (ss : List A) (n : ℕ) (i : CitationItem T P) (k : NumberedCite) (s : A) (now new : List G) (g : G)
+    (all : List (Gathered ℕ)) (tree : Children) (suffix : Option Suffix) → n < length is → n < length ks → n < length ss → i ≡ get_or is n i → k ≡ get_or ks n k → s ≡ get_or ss n s
     → map view now ++ all_gathered year_suffixes n (drop n is) (drop n ks) (map view_of (drop n ss)) ≡ all → new ≡ now ++ g ∷ []
-    → view g ≡ gathered_from n (get_or ks n d).number i.hidden (is_some i.locator) tree suffix → tree ≡ (view_of s).tree → suffix ≡ get_or year_suffixes (get_or ks n d).entry None
+    → view g ≡ gathered_from n k.number i.hidden (is_some i.locator) tree suffix → tree ≡ (view_of s).tree → suffix ≡ get_or year_suffixes k.entry None
     → map view new ++ all_gathered year_suffixes (n + 1) (drop (n + 1) is) (drop (n + 1) ks) (map view_of (drop (n + 1) ss)) ≡ all
-gathered_goes_on view year_suffixes view_of is ks ss n i d s now new g all tree suffix a b c x z h e is_view is_tree is_suffix =
-    let k = get_or ks n d in
+gathered_goes_on view year_suffixes view_of is ks ss n i k s now new g all tree suffix a b c x y z h e is_view is_tree is_suffix =
     view_more view now new g (gathered_from n k.number i.hidden (is_some i.locator) (view_of s).tree (get_or year_suffixes k.entry None)) (all_gathered year_suffixes n (drop n is) (drop n ks) (map view_of (drop n ss)))
-    (all_gathered year_suffixes (n + 1) (drop (n + 1) is) (drop (n + 1) ks) (map view_of (drop (n + 1) ss))) all (gathered_step year_suffixes view_of is ks ss n i k s a b c x (get_or_default ks n d k b) z) h e
+    (all_gathered year_suffixes (n + 1) (drop (n + 1) is) (drop (n + 1) ks) (map view_of (drop (n + 1) ss))) all (gathered_step year_suffixes view_of is ks ss n i k s a b c x y z) h e
     (is_view ∙ (λ j. gathered_from n k.number i.hidden (is_some i.locator) (is_tree j) (is_suffix j)))
 
 pub all_gathered_long : {T P : Type 0} (year_suffixes : List (Option Suffix)) (n : ℕ) (is : List (CitationItem T P)) (ks : List NumberedCite) (ss : List prints.Printed) → length ks ≡ length is → length ss ≡ length is → length (all_gathered year_suffixes n is ks ss) ≡ length is

@@ -24,10 +24,12 @@ use Rattle.driver_disambiguation.specs.Rounds.{Disambiguation, after_round, disa
 use Rattle.driver_rounds.specs.Documents.{Document, items_count, order_in}
 use Rattle.driver.specs.FinalPrints.{finals_from, firsts, listed_as}
 use Rattle.driver.specs.Finish.{effort_bound, finish, is_final_of, item_of_entry, rendered_from}
-use Rattle.driver_rounds.specs.OrderAndNumbers.{KnownCites, known_in, known_of, numbered_in}
+use Rattle.driver_rounds.specs.OrderAndNumbers.{KnownCites, known_in, known_of}
 use Rattle.driver.specs.Listing.{bibliography_from, item_first, item_listed, rendered_of}
 use Rattle.driver.specs.Stages.{Final, finals_in}
-use Rattle.driver_rounds.specs.FirstPrints.{adds_names, candidate, disambiguated_in, first_print, first_prints_in, flattened, numbered_after}
+use Rattle.driver_rounds.specs.FirstPrints.{adds_names, candidate, disambiguated_in, first_print, first_prints_in, first_rule, first_states, first_states_in, flattened, named_after, named_in, numbered_after, numbered_in, with_first_names}
+use Rattle.driver_rounds.specs.Naming.{first_effort}
+use Rattle.rendering_taxonomy.specs.declared.style.DisambiguationRule.{DisambiguationRule}
 use Rattle.driver_rounds.proofs.KnownIndices.{passed}
 use Rattle.driver.proofs.Maps.{flat_maps, map_map, maps_of_maps}
 
@@ -36,8 +38,8 @@ pub known_parts : {P : Type 0} (same : P → P → Bool) (d : Document P) (k : K
 known_parts same d k e = passed (numbers_overflow d.offset (cited d.requests)) overflow (known_of same d) k e
 
 -- first prints are those of the cites with their numbers
-pub firsts_are : {P : Type 0} (same : P → P → Bool) (d : Document P) → first_prints_in same d ≡ firsts (numbered_in same d)
-firsts_are {P} same d = maps_of_maps (first_print {P = P}) (numbered_after same d) (with_previous None (cites_of d.requests))
+pub firsts_are : {P : Type 0} (same : P → P → Bool) (d : Document P) → first_prints_in same d ≡ firsts (named_in same d)
+firsts_are {P} same d = maps_of_maps (first_print {P = P}) (named_after same d) (with_previous None (cites_of d.requests))
 
 adds_alike : {T P : Type 0} (answers : T → Answers) (p q : T → ℕ) (rs : List (CitationRequest T P)) → adds_names (map (request_view {P = P} p answers) rs) ≡ adds_names (map (request_view {P = P} q answers) rs)
 adds_alike answers p q [] = refl
@@ -45,13 +47,13 @@ adds_alike answers p q (r ∷ rs) = refl
 
 -- the states of a document
 pub states_are : {T P : Type 0} (same : P → P → Bool) (answers : T → Answers) (index : T → ℕ) (rs : List (CitationRequest T P)) (d : Document P) (count : ℕ) (nss : List (List (Numbered P))) → d.requests ≡ map (request_view index answers) rs
-    → length (cited d.requests) ≡ count → numbered_in same d ≡ nss
+    → length (cited d.requests) ≡ count → named_in same d ≡ nss
     → disambiguated (adds_names (map (request_view {P = P} (λ e. 0) answers) rs)) count (map (λ (n : Numbered P). candidate (first_print n)) (flattened nss)) ≡ disambiguated_in d (first_prints_in same d)
 states_are {T} {P} same answers index rs d count nss requests many are =
     let cites : map (λ (n : Numbered P). candidate (first_print n)) (flattened nss) ≡ map candidate (flattened (first_prints_in same d)) =
     ap (λ (mss : List (List (Numbered P))). map (λ (n : Numbered P). candidate (first_print n)) (flattened mss)) (sym are)
-    ∙ sym (map_map (candidate {P = P}) (first_print {P = P}) (flattened (numbered_in same d)))
-    ∙ ap (map candidate) (sym (flat_maps (first_print {P = P}) (numbered_in same d)))
+    ∙ sym (map_map (candidate {P = P}) (first_print {P = P}) (flattened (named_in same d)))
+    ∙ ap (map candidate) (sym (flat_maps (first_print {P = P}) (named_in same d)))
     ∙ ap (λ bss. map candidate (flattened bss)) (sym (firsts_are same d)) in
     let adds : adds_names (map (request_view {P = P} (λ e. 0) answers) rs) ≡ adds_names d.requests = adds_alike answers (λ e. 0) index rs ∙ ap adds_names (sym requests) in
     λ k. disambiguated (adds k) (sym many k) (cites k)
@@ -110,7 +112,7 @@ rendered_is {P} d order fss are =
     }
 
 -- what finishing gives where nothing overflows
-pub finish_is : {P : Type 0} (same : P → P → Bool) (d : Document P) (order : List ℕ) (nss : List (List (Numbered P))) (t : Disambiguation) → numbers_overflow d.offset (cited d.requests) ≡ false → order_in d ≡ order → numbered_in same d ≡ nss
+pub finish_is : {P : Type 0} (same : P → P → Bool) (d : Document P) (order : List ℕ) (nss : List (List (Numbered P))) (t : Disambiguation) → numbers_overflow d.offset (cited d.requests) ≡ false → order_in d ≡ order → named_in same d ≡ nss
     → disambiguated_in d (first_prints_in same d) ≡ t → suffixes_overflow t.given ≡ false
     → finish same d ≡ Ok (rendered_of d.bibliography_context order d.requests (finals_from same t d.requests (firsts nss)))
 finish_is {P} same d order nss t fits in_order are states year_suffixes =
@@ -142,6 +144,9 @@ cites_long {P} earlier (r ∷ rs) =
 pub all_long : {P : Type 0} (same : P → P → Bool) (d : Document P) → length (flattened (numbered_in same d)) ≡ items_count d
 all_long same d = previous_long (numbered_after same d) None (cites_of d.requests) ∙ cites_long [] d.requests
 
+named_long : {P : Type 0} (same : P → P → Bool) (d : Document P) → length (flattened (named_in same d)) ≡ items_count d
+named_long same d = previous_long (named_after same d) None (cites_of d.requests) ∙ cites_long [] d.requests
+
 listing_at_most : {B : Type 0} (m n : ℕ) (b : Option B) → m ≡ n → option_map_or (λ s. m) b 0 ≡ option_map_or (λ s. n) b 0
 listing_at_most m n None e = refl
 listing_at_most m n (Some b) e = e
@@ -150,9 +155,27 @@ listing_at_most m n (Some b) e = e
 pub runs_many : {P : Type 0} (same : P → P → Bool) (d : Document P) (nss : List (List (Numbered P))) → numbered_in same d ≡ nss → length (flattened nss) ≡ items_count d
 runs_many {P} same d nss are = ap (λ (mss : List (List (Numbered P))). length (flattened mss)) (sym are) ∙ all_long same d
 
+-- so they are with their first names
+pub named_many : {P : Type 0} (same : P → P → Bool) (d : Document P) (nss : List (List (Numbered P))) → named_in same d ≡ nss → length (flattened nss) ≡ items_count d
+named_many {P} same d nss are = ap (λ (mss : List (List (Numbered P))). length (flattened mss)) (sym are) ∙ named_long same d
+
+pub rule_alike : {T P : Type 0} (answers : T → Answers) (p q : T → ℕ) (rs : List (CitationRequest T P)) → first_rule (map (request_view {P = P} p answers) rs) ≡ first_rule (map (request_view {P = P} q answers) rs)
+rule_alike answers p q [] = refl
+rule_alike answers p q (r ∷ rs) = refl
+
+-- the cites of a document with their first names, from those with their numbers
+pub named_are : {T P : Type 0} (same : P → P → Bool) (answers : T → Answers) (index : T → ℕ) (rs : List (CitationRequest T P)) (d : Document P) (count : ℕ) (nss mss : List (List (Numbered P))) (ss : Option States)
+    → d.requests ≡ map (request_view index answers) rs → length (cited d.requests) ≡ count → numbered_in same d ≡ nss → ss ≡ first_states (first_rule (map (request_view {P = P} (λ e. 0) answers) rs)) count (flattened nss)
+    → mss ≡ map (map (with_first_names ss)) nss → named_in same d ≡ mss
+named_are {T} {P} same answers index rs d count nss mss ss requests many are states made =
+    let rule : first_rule (map (request_view {P = P} (λ e. 0) answers) rs) ≡ first_rule d.requests = rule_alike answers (λ e. 0) index rs ∙ ap first_rule (sym requests) in
+    let same_states : ss ≡ first_states_in same d = states ∙ (λ k. first_states (rule k) (sym many k) (flattened (sym are k))) in
+    sym (made ∙ (λ k. map (map (with_first_names (same_states k))) (sym are k)) ∙ sym (maps_of_maps (with_first_names (first_states_in same d)) (numbered_after same d) (with_previous None (cites_of d.requests))))
+
 -- how much is done, part by part
-pub effort_is : {P : Type 0} (d : Document P) (order : List ℕ) (start first after last l m n : ℕ) → start ≡ 0 → l ≡ items_count d → m ≡ items_count d → n ≡ items_count d → length order ≡ length (cited d.requests)
-    → first ≤ start + l → after ≤ first + 3 * m → last ≤ after + n + option_map_or (λ s. length order) d.bibliography_context.style.bibliography 0 → last ≤ effort_bound d
-effort_is d order start first after last l m n none is_l is_m is_n many a b c =
+pub effort_is : {P : Type 0} (d : Document P) (order : List ℕ) (rule : Option DisambiguationRule) (start named first after last k l m n : ℕ) → start ≡ 0 → k ≡ items_count d → l ≡ items_count d → m ≡ items_count d → n ≡ items_count d → length order ≡ length (cited d.requests)
+    → rule ≡ first_rule d.requests → named ≤ start + first_effort rule k → first ≤ named + l → after ≤ first + 3 * m → last ≤ after + n + option_map_or (λ s. length order) d.bibliography_context.style.bibliography 0 → last ≤ effort_bound d
+effort_is d order rule start named first after last k l m n none is_k is_l is_m is_n many is_rule z a b c =
+    let asked : first_effort rule k ≡ first_effort (first_rule d.requests) (items_count d) = λ j. first_effort (is_rule j) (is_k j) in
     let listed = listing_at_most (length order) (length (cited d.requests)) d.bibliography_context.style.bibliography many in
-    omega (arith, none, is_l, is_m, is_n, listed, a, b, c)
+    omega (arith, none, is_l, is_m, is_n, listed, asked, z, a, b, c)

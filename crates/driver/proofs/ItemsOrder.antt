@@ -18,7 +18,7 @@ use Rattle.driver_blocks.specs.Runs.{Arranged}
 use Rattle.driver_rounds.specs.Documents.{Document, order_in}
 use Rattle.driver.specs.Finish.{is_final_of, item_of_cite, item_properties}
 use Rattle.driver.specs.Stages.{finals_of, Final, arranged_for, final, gathered_by, has_purpose}
-use Rattle.driver_rounds.specs.FirstPrints.{FirstPrint, disambiguated_in, entry_of_first, first_print, first_prints_in, flattened, numbered_after}
+use Rattle.driver_rounds.specs.FirstPrints.{FirstPrint, disambiguated_in, entry_of_first, first_print, first_prints_in, flattened, named_after}
 use Rattle.driver.proofs.ArrangedCount.{arranged_any}
 use Rattle.driver.proofs.DocumentsOrder.{ordered_has}
 use Rattle.driver.proofs.Maps.{any_map, any_same}
@@ -53,14 +53,14 @@ module _ {P : Type 0} (same : P → P → Bool) (d : Document P) (t : Disambigua
       at : (p : ℕ × Item P) → (entry_of (cite_at earlier r p) == entry_index) ≡ cites_entry entry_index p.1
       at (index, i) = refl
 
-  printed_cited : (last : Option (Cite P)) (cs : List (Cite P)) → list_any is_first_of (map (λ p. first_print (numbered_after same d p)) (zip (last ∷ map (λ c. Some c) cs) cs)) ≡ list_any (λ (c : Cite P). entry_of c == entry_index) cs
+  printed_cited : (last : Option (Cite P)) (cs : List (Cite P)) → list_any is_first_of (map (λ p. first_print (named_after same d p)) (zip (last ∷ map (λ c. Some c) cs) cs)) ≡ list_any (λ (c : Cite P). entry_of c == entry_index) cs
   printed_cited last cs =
       let pairs = zip (last ∷ map (λ c. Some c) cs) cs in
-      any_map (λ p. first_print (numbered_after same d p)) is_first_of pairs
-      ∙ any_same (λ p. is_first_of (first_print (numbered_after same d p))) (λ (p : Option (Cite P) × Cite P). entry_of p.1 == entry_index) at pairs
+      any_map (λ p. first_print (named_after same d p)) is_first_of pairs
+      ∙ any_same (λ p. is_first_of (first_print (named_after same d p))) (λ (p : Option (Cite P) × Cite P). entry_of p.1 == entry_index) at pairs
       ∙ any_second (λ (c : Cite P). entry_of c == entry_index) last (λ c. Some c) cs
     where
-      at : (p : Option (Cite P) × Cite P) → is_first_of (first_print (numbered_after same d p)) ≡ (entry_of p.1 == entry_index)
+      at : (p : Option (Cite P) × Cite P) → is_first_of (first_print (named_after same d p)) ≡ (entry_of p.1 == entry_index)
       at (last, c) = refl
 
   arranged_cited : (r : Request P) (bs : List (FirstPrint P)) → list_any (λ (a : Arranged (FirstPrint P)). is_first_of a.cite.cite) (arranged_for t (r, bs)) ≡ list_any is_first_of bs
@@ -81,15 +81,15 @@ module _ {P : Type 0} (same : P → P → Bool) (d : Document P) (t : Disambigua
 
   -- an entry has a cite in the final order where an item cites it
   all_cited : (earlier : List (Request P)) (before : Option (Cite P)) (last : Option (Arranged (FirstPrint P))) (rs : List (Request P))
-      → list_any (is_final_of entry_index) (flattened (map (map (final same t)) (with_previous last (map (arranged_for t) (zip rs (map (map (λ p. first_print (numbered_after same d p))) (with_previous before (cites_after earlier rs))))))))
+      → list_any (is_final_of entry_index) (flattened (map (map (final same t)) (with_previous last (map (arranged_for t) (zip rs (map (map (λ p. first_print (named_after same d p))) (with_previous before (cites_after earlier rs))))))))
       ≡ list_any (cites_entry entry_index) (flat_map (λ (r : Request P). r.items) rs)
   all_cited earlier before last [] = refl
   all_cited earlier before last (r ∷ rs) =
       let cs = map (cite_at earlier r) (enumerate_from 0 r.items) in
-      let bs = map (λ p. first_print (numbered_after same d p)) (zip (before ∷ map (λ c. Some c) cs) cs) in
+      let bs = map (λ p. first_print (named_after same d p)) (zip (before ∷ map (λ c. Some c) cs) cs) in
       let xs = arranged_for t (r, bs) in
       let fs = map (final same t) (zip (last ∷ map (λ a. Some a) xs) xs) in
-      let rest = flattened (map (map (final same t)) (with_previous (last_or last xs) (map (arranged_for t) (zip rs (map (map (λ p. first_print (numbered_after same d p))) (with_previous (last_or before cs) (cites_after (earlier ++ r ∷ []) rs))))))) in
+      let rest = flattened (map (map (final same t)) (with_previous (last_or last xs) (map (arranged_for t) (zip rs (map (map (λ p. first_print (named_after same d p))) (with_previous (last_or before cs) (cites_after (earlier ++ r ∷ []) rs))))))) in
       any_both (is_final_of entry_index) (cites_entry entry_index) fs rest r.items (flat_map (λ (q : Request P). q.items) rs) (final_cited last xs ∙ arranged_cited r bs ∙ printed_cited before cs ∙ item_cited earlier r) (all_cited (earlier ++ r ∷ []) (last_or before cs) (last_or last xs) rs)
 
 module _ {P : Type 0} (entry_index : ℕ) where

@@ -12,7 +12,7 @@ use Rattle.driver_blocks.specs.Runs.{Arranged}
 use Rattle.driver_rounds.specs.Documents.{Document, order_in}
 use Rattle.driver.specs.Finish.{is_final_of, item_of_cite, key_at, keys_in}
 use Rattle.driver.specs.Stages.{finals_of, Final, cite_of, final, finals_in, first_print_of}
-use Rattle.driver_rounds.specs.FirstPrints.{FirstPrint, disambiguated_in, first_print, first_prints_in, numbered_after}
+use Rattle.driver_rounds.specs.FirstPrints.{FirstPrint, disambiguated_in, first_print, first_prints_in, named_after}
 use Rattle.driver.proofs.FinalPrintsOf.{finals_all, prints_all}
 use Rattle.driver.proofs.ItemsOrder.{final_there, found_some, item_there, order_cited}
 use Rattle.driver.proofs.Members.{both_all, enumerate_all, flat_all, map_all, weaker_all}
@@ -81,7 +81,7 @@ module _ {P : Type 0} (d : Document P) (table : ℕ → Option Answers) where
       prints_there : AllByRecursion (AllByRecursion FirstOfTable) (first_prints_in same d)
       prints_there = prints_all same d OfTable FirstOfTable at (cites_there [] d.requests (requests_there d.requests h))
         where
-          at : (p : Option (Cite P) × Cite P) → OfTable p.1 → FirstOfTable (first_print (numbered_after same d p))
+          at : (p : Option (Cite P) × Cite P) → OfTable p.1 → FirstOfTable (first_print (named_after same d p))
           at (last, c) g = g
 
       finals_there : AllByRecursion FinalOfTable (finals_of same d)

@@ -30,7 +30,7 @@ module _ {P : Type 0} (f g : Final P) (context : (cite_of f).context ≡ (cite_o
   placed_alike p is_shown delimiter index listed item = λ j. record {
     shown = p.shown ++ (if is_shown j then record { delimiter = delimiter j; index = index j; tree = printed_alike j } ∷ [] else []);
     listed = listed_with p.listed (listed j);
-    last = Some (item j);
+    last = Some (index j, item j);
   }
 
 -- cites come to the same without their names

@@ -10,10 +10,11 @@ use Rattle.rendering_tree.specs.Trees.{Children, element_with, names_element, no
 use Rattle.rendering_context.specs.Contexts.{StyleContext}
 use Rattle.driver_requests.specs.Cites.{Numbered, properties_of}
 use Rattle.driver_requests.specs.Requests.{Item, Request}
-use Rattle.driver_requests.specs.Positions.{ibid_after, with_previous}
+use Rattle.driver_requests.specs.Positions.{ibid_of, place_of, with_previous}
 use Rattle.driver_requests.specs.Suffixes.{Suffix}
-use Rattle.driver_requests.specs.Views.{item_view}
+use Rattle.driver_requests.specs.Views.{last_view}
 use Rattle.driver_requests.specs.declared.item.CitationItem.{CitationItem}
+use Rattle.driver_requests.specs.declared.position.LastCite.{LastCite}
 use Rattle.driver_names.specs.Prints as prints
 use Rattle.driver_disambiguation.specs.States.{States, state_of}
 use Rattle.driver_disambiguation.specs.Rounds.{Disambiguation}
@@ -27,12 +28,11 @@ use Rattle.driver_citations.specs.Joining.{shown_view}
 use Rattle.driver.specs.Renaming.{arranged_as}
 use Rattle.driver.specs.RenderedViews.{rendered_citation_view}
 use Rattle.driver_rounds.specs.FirstPrints.{FirstPrint, entry_of_first, first_print}
-use Rattle.driver.specs.Stages.{Final, arranged_for, cite_of, counts_at_last, final, first_print_of, item_arranged}
+use Rattle.driver.specs.Stages.{Final, arranged_for, cite_of, counts_at_last, final, first_print_of, place_arranged}
 use Rattle.driver_rounds.specs.Views.{numbered_view, properties_with}
 use Rattle.driver_rounds.specs.declared.cite.NumberedCite.{NumberedCite}
 use Rattle.driver_citations.specs.declared.citation.ShownCite.{ShownCite}
 use Rattle.driver.specs.declared.final_prints.FinalCite.{FinalCite}
-use Rattle.driver.specs.declared.final_prints.LastCite.{LastCite}
 use Rattle.driver.specs.declared.final_prints.ListedCite.{ListedCite}
 use Rattle.driver.specs.declared.rendered.RenderedCitation.{RenderedCitation}
 
@@ -106,25 +106,25 @@ nameless a = record a { cite = record a.cite { names = None } }
 abbrev pub IsLeft : Children → Children → Type 0
 IsLeft left t = (left ≡ nothing) ⊎ (left ≡ t)
 
--- a cite with its final state, after an item
-abbrev pub final_after : {P : Type 0} → (P → P → Bool) → States → Option (Item P) → Arranged (FirstPrint P) → Final P
+-- a cite with its final state, after an item, which has an index in its request
+abbrev pub final_after : {P : Type 0} → (P → P → Bool) → States → Option (ℕ × Item P) → Arranged (FirstPrint P) → Final P
 final_after same states last a = record {
   arranged = a;
-  properties = record (properties_of (first_print_of a).numbered (state_of states (entry_of_first (first_print_of a)))) { ibid = ibid_after same counts_at_last last (item_arranged a) };
+  properties = record (properties_of (first_print_of a).numbered (state_of states (entry_of_first (first_print_of a)))) { ibid = ibid_of same counts_at_last last (first_print_of a).numbered.cite };
 }
 
 -- cites of a request, the first of them after an item, each other one after the one before it
-abbrev pub finals_after : {P : Type 0} → (P → P → Bool) → States → Option (Item P) → List (Arranged (FirstPrint P)) → List (Final P)
+abbrev pub finals_after : {P : Type 0} → (P → P → Bool) → States → Option (ℕ × Item P) → List (Arranged (FirstPrint P)) → List (Final P)
 finals_after same states last [] = []
-finals_after same states last (a ∷ xs) = final_after same states last a ∷ finals_after same states (Some (item_arranged a)) xs
+finals_after same states last (a ∷ xs) = final_after same states last a ∷ finals_after same states (Some (place_arranged a)) xs
 
 -- the last item of cites, or the one before them
-abbrev pub last_arranged : {P : Type 0} → Option (Item P) → List (Arranged (FirstPrint P)) → Option (Item P)
+abbrev pub last_arranged : {P : Type 0} → Option (ℕ × Item P) → List (Arranged (FirstPrint P)) → Option (ℕ × Item P)
 last_arranged last [] = last
-last_arranged last (a ∷ xs) = last_arranged (Some (item_arranged a)) xs
+last_arranged last (a ∷ xs) = last_arranged (Some (place_arranged a)) xs
 
 -- the cites of requests as they are printed at last, each after the one before it
-abbrev pub all_finals : {P : Type 0} → (P → P → Bool) → States → Option (Item P) → List (List (Arranged (FirstPrint P))) → List (List (Final P))
+abbrev pub all_finals : {P : Type 0} → (P → P → Bool) → States → Option (ℕ × Item P) → List (List (Arranged (FirstPrint P))) → List (List (Final P))
 all_finals same states last [] = []
 all_finals same states last (xs ∷ xss) = finals_after same states last xs ∷ all_finals same states (last_arranged last xs) xss
 
@@ -132,11 +132,11 @@ all_finals same states last (xs ∷ xss) = finals_after same states last xs ∷ 
 pub record Placed (P : Type 0) : Type 0 where
   pub shown : List Shown
   pub listed : List (Option Listed)
-  pub last : Option (Item P)
+  pub last : Option (ℕ × Item P)
 
 -- one more cite
 abbrev pub placed_final : {P : Type 0} → Placed P → Final P → Placed P
-placed_final p f = record { shown = p.shown ++ shown f; listed = listed_with p.listed (listed_as f); last = Some (cite_of f).item }
+placed_final p f = record { shown = p.shown ++ shown f; listed = listed_with p.listed (listed_as f); last = Some (place_of (cite_of f)) }
 
 -- one more cite after the last
 abbrev pub placed_with : {P : Type 0} → (P → P → Bool) → States → Placed P → Arranged (FirstPrint P) → Placed P
@@ -146,7 +146,7 @@ placed_with same states p a = placed_final p (final_after same states p.last a)
 pub record Cited (P : Type 0) : Type 0 where
   pub citations : List Citation
   pub listed : List (Option Listed)
-  pub last : Option (Item P)
+  pub last : Option (ℕ × Item P)
 
 -- one more request with these cites
 abbrev pub cited_with : {P : Type 0} → (P → P → Bool) → Disambiguation → Cited P → Request P × List (FirstPrint P) → Cited P
@@ -170,9 +170,9 @@ final_listed_view answers states f = record {
   properties = properties_with f.cite (state_of states f.cite.entry) None f.ibid f.usage;
 }
 
--- the item of the last cite
-abbrev pub last_cite_view : {T P : Type 0} → (T → Answers) → Option (LastCite T P) → Option (Item P)
-last_cite_view {T} {P} answers last = option_map (λ (l : LastCite T P). item_view (λ e. l.entry) answers l.item.now) last
+-- the index of the last cite in its request, and its item
+abbrev pub last_cite_view : {T P : Type 0} → (T → Answers) → Option (LastCite T P) → Option (ℕ × Item P)
+last_cite_view answers last = option_map (last_view answers) last
 
 -- what the cites of a request have come to
 abbrev pub placed_view : {T P : Type 0} → (T → Answers) → States → List ShownCite → List (Option (ListedCite T)) → Option (LastCite T P) → Placed P

@@ -6,6 +6,7 @@ use Rattle.rendering_tree.specs.Trees.{Children}
 use Rattle.rendering_style.specs.Styles.{Bibliography}
 use Rattle.rendering_context.specs.Cites.{CiteProperties}
 use Rattle.rendering.specs.Purposes.{bibliography}
+use Rattle.rendering.specs.Words.{joining_quotes}
 use Rattle.driver_requests.specs.Errors.{Overflow, overflow}
 use Rattle.driver_requests.specs.Requests.{Request, cites_entry}
 use Rattle.driver_requests.specs.Order.{cited, numbers_overflow}
@@ -14,7 +15,8 @@ use Rattle.driver_disambiguation.specs.Rounds.{Disambiguation}
 use Rattle.driver_bibliography.specs.Items.{Fields, items_of}
 use Rattle.driver_citations.specs.Citations.{Shown, citation_of}
 use Rattle.driver_rounds.specs.Documents.{Document, order_in, items_count}
-use Rattle.driver_rounds.specs.FirstPrints.{FirstPrint, flattened, first_prints_in, disambiguated_in}
+use Rattle.driver_rounds.specs.FirstPrints.{FirstPrint, flattened, first_prints_in, disambiguated_in, first_rule}
+use Rattle.driver_rounds.specs.Naming.{first_effort}
 use Rattle.driver.specs.Stages.{Final, first_print_of, finals_in, has_purpose, cite_of, printed_at_last}
 use Rattle.rendering_taxonomy.specs.declared.style.SecondFieldAlign.{SecondFieldAlign}
 
@@ -46,7 +48,7 @@ shown f = if f.arranged.is_shown then shown_cite f ∷ [] else []
 
 -- what the citation of a request prints
 abbrev pub citation_tree : {P : Type 0} → Request P → List (Final P) → Children
-citation_tree r fs = citation_of r.context.style.citation.layout (has_purpose r) (flat_map shown fs)
+citation_tree r fs = citation_of (joining_quotes r.context) r.context.style.citation.layout (has_purpose r) (flat_map shown fs)
 
 -- the citation of a request
 abbrev pub citation_in : {P : Type 0} → Request P × List (Final P) → Citation
@@ -117,6 +119,7 @@ key_at d index = option_map (λ i. i.entry.answers.key) (find (cites_entry index
 abbrev pub keys_in : {P : Type 0} → Document P → List (List ℕ)
 keys_in d = filter_map (key_at d) (order_in d)
 
--- How many calls of styles `finish` takes at most: five for each item, and one for each cited entry where there is a bibliography.
+-- How many calls of styles `finish` takes at most: five for each item, or six where given names are printed before cites are compared, and
+-- one for each cited entry where there is a bibliography.
 abbrev pub effort_bound : {P : Type 0} → Document P → ℕ
-effort_bound d = 5 * items_count d + option_map_or (λ b. length (cited d.requests)) d.bibliography_context.style.bibliography 0
+effort_bound d = first_effort (first_rule d.requests) (items_count d) + 5 * items_count d + option_map_or (λ b. length (cited d.requests)) d.bibliography_context.style.bibliography 0

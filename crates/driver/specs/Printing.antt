@@ -31,7 +31,7 @@ use Rattle.driver_citations.specs.declared.citation.ShownCite.{ShownCite}
 use Rattle.driver_rounds.specs.declared.document_cites.DocumentCites.{DocumentCites}
 use Rattle.driver.specs.declared.final_states.FinalStates.{FinalStates}
 use Rattle.driver.specs.declared.final_prints.FinalCite.{FinalCite}
-use Rattle.driver.specs.declared.final_prints.LastCite.{LastCite}
+use Rattle.driver_requests.specs.declared.position.LastCite.{LastCite}
 use Rattle.driver.specs.declared.final_prints.ListedCite.{ListedCite}
 use Rattle.driver.specs.declared.final_prints.Printing.{Printing}
 use Rattle.driver_names.specs.Views.{given_states_view}
@@ -96,7 +96,7 @@ abbrev pub request_arranged : {T P : Type 0} → (T → Answers) → Printing T 
 request_arranged answers p = arranged_for (final_states_view p.entry_states) (request_view (λ e. 0) answers p.cites.request.now, map first_print (request_cites answers p.cites))
 
 -- the cites of a request as they are printed at last, after an item
-abbrev pub request_finals : {T P : Type 0} → (P → P → Bool) → (T → Answers) → Option (Item P) → Printing T P → List (Final P)
+abbrev pub request_finals : {T P : Type 0} → (P → P → Bool) → (T → Answers) → Option (ℕ × Item P) → Printing T P → List (Final P)
 request_finals same answers last p = finals_after same (states_view p.entry_states) last (request_arranged answers p)
 
 -- cites that are arranged have their indices in the request

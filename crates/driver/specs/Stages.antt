@@ -1,5 +1,5 @@
 -- Cites from their states to their last print.
-use Rattle.std.specs.Prelude.{Bool, true, not, List, map, zip, is_some, Option, None}
+use Rattle.std.specs.Prelude.{ℕ, Bool, true, not, List, map, zip, is_some, Option, None}
 use Rattle.std.specs.List.{list_any}
 use Rattle.std.specs.Option.{option_map}
 use Rattle.rendering_tree.specs.Metas as metas
@@ -8,7 +8,7 @@ use Rattle.rendering_context.specs.Cites.{CiteProperties, DisambiguateState}
 use Rattle.rendering.specs.Purposes.{citation}
 use Rattle.driver_requests.specs.Requests.{Item, Request, plain_locator}
 use Rattle.driver_requests.specs.Cites.{Cite, properties_of}
-use Rattle.driver_requests.specs.Positions.{ibid_after, with_previous}
+use Rattle.driver_requests.specs.Positions.{ibid_of, place_of, with_previous}
 use Rattle.driver_disambiguation.specs.States.{state_of, suffix_by}
 use Rattle.driver_disambiguation.specs.Rounds.{Disambiguation}
 use Rattle.driver_blocks.specs.Blocks as blocks
@@ -54,10 +54,6 @@ pub record Final (P : Type 0) : Type 0 where
 abbrev pub first_print_of : {P : Type 0} → Arranged (FirstPrint P) → FirstPrint P
 first_print_of a = a.cite.cite
 
--- the item of a cite in its citation
-abbrev pub item_arranged : {P : Type 0} → Arranged (FirstPrint P) → Item P
-item_arranged a = (first_print_of a).numbered.cite.item
-
 -- at last every item counts
 abbrev pub counts_at_last : {P : Type 0} → Item P → Bool
 counts_at_last i = true
@@ -66,9 +62,13 @@ counts_at_last i = true
 abbrev pub properties_in_state : {P : Type 0} → Disambiguation → FirstPrint P → CiteProperties
 properties_in_state t b = properties_of b.numbered (state_for t b)
 
+-- the index of a cite of a citation in its request, and its item
+abbrev pub place_arranged : {P : Type 0} → Arranged (FirstPrint P) → ℕ × Item P
+place_arranged a = place_of (first_print_of a).numbered.cite
+
 -- the ibid state of a cite after the one before it in the final order
 abbrev pub ibid_at_last : {P : Type 0} → (P → P → Bool) → Option (Arranged (FirstPrint P)) → Arranged (FirstPrint P) → IbidState
-ibid_at_last same last a = ibid_after same counts_at_last (option_map item_arranged last) (item_arranged a)
+ibid_at_last same last a = ibid_of same counts_at_last (option_map place_arranged last) (first_print_of a).numbered.cite
 
 -- a cite with its final state, as it follows the one before it in the final order
 abbrev pub final : {P : Type 0} → (P → P → Bool) → Disambiguation → Option (Arranged (FirstPrint P)) × Arranged (FirstPrint P) → Final P

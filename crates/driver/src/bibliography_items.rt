@@ -35,7 +35,7 @@ pub(crate) fn bibliography<T: EntryLike>(
     request: &BibliographyRequest<'_, T>,
     order: &[usize],
     states: &[DisambiguateState],
-    listed: &[Option<ListedCite<'_, T>>],
+    listed: &[Option<ListedCite<'_, '_, T>>],
     effort: &mut Effort,
 ) -> Result<Option<RenderedBibliography>, AllocError>
     requires order { All (λ p. p < length states.now) order.now }
@@ -68,7 +68,7 @@ fn listed_in<T: EntryLike>(
     style: &Bibliography,
     order: &[usize],
     states: &[DisambiguateState],
-    listed: &[Option<ListedCite<'_, T>>],
+    listed: &[Option<ListedCite<'_, '_, T>>],
     effort: &mut Effort,
 ) -> Result<RenderedBibliography, AllocError>
     requires order { All (λ p. p < length states.now) order.now }
@@ -112,7 +112,7 @@ fn listed_items<'r, T: EntryLike>(
     context: &StyleContext<'_>,
     order: &[usize],
     states: &[DisambiguateState],
-    listed: &[Option<ListedCite<'r, T>>],
+    listed: &[Option<ListedCite<'r, '_, T>>],
     effort: &mut Effort,
 ) -> Result<ListedItems<'r, T>, AllocError>
     requires order { All (λ p. p < length states.now) order.now }
@@ -147,7 +147,7 @@ fn listed_items<'r, T: EntryLike>(
 /// Appends what is printed of an entry by its state, if it is listed.
 fn push_item<'r, T: EntryLike>(
     context: &StyleContext<'_>,
-    listed: &Option<ListedCite<'r, T>>,
+    listed: &Option<ListedCite<'r, '_, T>>,
     state: &DisambiguateState,
     trees: &mut Vec<ElemChildren>,
     entries: &mut Vec<&'r T>,
@@ -200,7 +200,7 @@ fn push_printed<'r, T: EntryLike>(
 /// What is printed of an entry that is listed, by its state.
 fn item_of<T: EntryLike>(
     context: &StyleContext<'_>,
-    listed: &ListedCite<'_, T>,
+    listed: &ListedCite<'_, '_, T>,
     state: &DisambiguateState,
     effort: &mut Effort,
 ) -> Result<Option<ElemChildren>, AllocError>

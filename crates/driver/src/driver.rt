@@ -23,7 +23,8 @@ use crate::rendered::{Rendered, RenderedCitation};
 use driver_disambiguation::suffixes;
 use driver_requests::{BibliographyRequest, CitationRequest, DriverError};
 use driver_rounds::{
-    DocumentCites, FirstPrints, RoundStates, disambiguated, first_prints, known_of,
+    DocumentCites, FirstPrints, RoundStates, disambiguated, first_prints, first_states, known_of,
+    named_runs,
 };
 use rendering::Effort;
 use rendering_context::DisambiguateState;
@@ -35,9 +36,9 @@ use std::hash::Hash;
 
 /// The citations of requests, and what a bibliography lists entries by: the first cite of each, and the states of all.
 #[derive(Drop)]
-struct FinalCitations<'r, T> {
+struct FinalCitations<'r, 'c, T> {
     citations: Vec<RenderedCitation>,
-    listed: Vec<Option<ListedCite<'r, T>>>,
+    listed: Vec<Option<ListedCite<'r, 'c, T>>>,
     states: Vec<DisambiguateState>,
 }
 
@@ -179,12 +180,18 @@ fn finish_requests<'r, T: EntryLike + Hash, P: PartialEq>(
 {
     let known = known_of(alloc, requests, offset, request)?;
     let contexts = contexts(alloc, requests)?;
-    let cites = DocumentCites {
+    let numbered = DocumentCites {
         requests,
         contexts: &contexts,
         runs: &known.runs,
     };
     let mut effort = Effort::default();
+    let states = first_states(alloc, numbered, known.count, &mut effort)?;
+    let runs = named_runs(alloc, &known.runs, lent(&states))?;
+    let cites = DocumentCites {
+        runs: &runs,
+        ..numbered
+    };
     let first = first_prints(alloc, cites, &mut effort)?;
     let FirstPrints { printed, usages } = first;
     let entry_states = disambiguated(alloc, cites, printed, known.count, &mut effort)?;
@@ -197,6 +204,16 @@ fn finish_requests<'r, T: EntryLike + Hash, P: PartialEq>(
         entry_states,
         &mut effort,
     )
+}
+
+/// The states of entries, where there are some.
+fn lent(states: &Option<Vec<DisambiguateState>>) -> Option<&[DisambiguateState]>
+    ensures { option_map (λ s. s.now) result ≡ option_map (λ v. v.items) states.now }
+{
+    match states {
+        Some(states) => Some(states.as_slice()),
+        None => None,
+    }
 }
 
 /// Citations and bibliography of requests by the final states. The bibliography is printed once what cites have printed is freed.
@@ -237,13 +254,13 @@ fn render<'r, T: EntryLike, P: PartialEq>(
 
 /// The citations of requests by the final states, and what a bibliography lists entries by. What cites have printed goes into the
 /// citations.
-fn final_citations<'r, T: EntryLike, P: PartialEq>(
+fn final_citations<'r, 'c, T: EntryLike, P: PartialEq>(
     alloc: Global,
-    cites: DocumentCites<'r, '_, T, P>,
+    cites: DocumentCites<'r, 'c, T, P>,
     usages: &[IdentifierUsage],
     entry_states: RoundStates,
     effort: &mut Effort,
-) -> Result<FinalCitations<'r, T>, AllocError>
+) -> Result<FinalCitations<'r, 'c, T>, AllocError>
     requires { ArePrinted T.answers cites entry_states.states.items usages.now
         (printed_cites_view entry_states.printed) }
     ensures citations { (index : T → ℕ)
@@ -278,10 +295,10 @@ fn final_citations<'r, T: EntryLike, P: PartialEq>(
 }
 
 /// For each entry that it is not listed by a cite yet.
-fn unlisted<'r, T>(
+fn unlisted<'r, 'c, T>(
     alloc: Global,
     count: usize,
-) -> Result<Vec<Option<ListedCite<'r, T>>>, AllocError>
+) -> Result<Vec<Option<ListedCite<'r, 'c, T>>>, AllocError>
     ensures { IfOk result (λ v. v.items ≡ replicate count None) }
 {
     let mut listed = Vec::with_capacity(alloc, count)?;

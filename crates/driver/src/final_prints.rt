@@ -11,9 +11,8 @@ ghost use Rattle.driver_blocks.specs.Collapsing.{arranged};
 ghost use Rattle.driver_blocks.specs.Views.{arranged_view, gathered_view};
 ghost use Rattle.driver_disambiguation.specs.States.{States};
 ghost use Rattle.driver_names.specs.Views.{printed_view};
-ghost use Rattle.driver_requests.specs.Positions as positions;
 ghost use Rattle.driver_requests.specs.SuffixViews.{suffix_view};
-ghost use Rattle.driver_requests.specs.Views.{item_view, request_view};
+ghost use Rattle.driver_requests.specs.Views.{request_view};
 ghost use Rattle.driver_rounds.specs.CitesInStep.{cites_count};
 ghost use Rattle.driver.specs.FinalPrints.{all_gathered, gathered_from, last_arranged, last_cite_view, listed_as, listed_view, final_listed_view, listed_with, nameless, placed_with};
 ghost use Rattle.driver.specs.Finish as finish;
@@ -23,14 +22,13 @@ ghost use Rattle.driver.specs.Printing.{AreIndices, ArePrinted, BelongTogether, 
 ghost use Rattle.driver.specs.RenderedViews.{rendered_citation_view};
 ghost use Rattle.driver_rounds.specs.FirstPrints as first;
 ghost use Rattle.driver.specs.Stages as stages;
-ghost use Rattle.driver.specs.Stages.{counts_at_last};
 
 use crate::final_states::FinalStates;
 use crate::rendered::RenderedCitation;
 use driver_blocks::{Arranged, Gathered, arrange};
 use driver_citations::{ShownCite, citation_of, plain_locator};
 use driver_disambiguation::Printed;
-use driver_requests::{CitationItem, CitationRequest, Suffix, ibid_after};
+use driver_requests::{CitationItem, CitationRequest, LastCite, Suffix, ibid_of};
 use driver_rounds::{DocumentCites, NumberedCite, RequestCites};
 use rendering::Effort;
 use rendering_entries::EntryLike;
@@ -41,26 +39,18 @@ use std::alloc::{AllocError, Global};
 
 /// The first cite of an entry in the final order, by which the bibliography lists it.
 #[derive_where(Clone, Copy)]
-pub(crate) struct ListedCite<'r, T> {
+pub(crate) struct ListedCite<'r, 'c, T> {
     pub(crate) entry: &'r T,
-    pub(crate) cite: NumberedCite,
+    pub(crate) cite: NumberedCite<'c>,
     pub(crate) ibid: IbidState,
     pub(crate) usage: IdentifierUsage,
 }
 
-/// The last cite so far in the final order.
-#[derive_where(Clone, Copy)]
-struct LastCite<'r, T, P> {
-    item: &'r CitationItem<'r, T, P>,
-    /// The index of its entry among all that are cited.
-    entry: usize,
-}
-
 /// A cite in the final order, with its ibid state there, and which identifiers it printed at first.
 #[derive_where(Clone, Copy)]
-struct FinalCite<'r, T, P> {
+struct FinalCite<'r, 'c, T, P> {
     item: &'r CitationItem<'r, T, P>,
-    cite: NumberedCite,
+    cite: NumberedCite<'c>,
     ibid: IbidState,
     usage: IdentifierUsage,
 }
@@ -68,22 +58,22 @@ struct FinalCite<'r, T, P> {
 /// What the citation of a request is printed from: its cites, which identifiers they printed at first, its style, and the final states of
 /// all entries.
 #[derive_where(Clone, Copy)]
-struct Printing<'r, 'c, T, P> {
+struct Printing<'r, 'c, 's, T, P> {
     cites: RequestCites<'r, 'c, T, P>,
-    usages: &'c [IdentifierUsage],
+    usages: &'s [IdentifierUsage],
     style: &'r Citation,
-    entry_states: FinalStates<'c>,
+    entry_states: FinalStates<'s>,
 }
 
 /// The citations of requests, and of each entry its first cite in the final order. What cites have printed by their final states goes into
 /// them.
-pub(crate) fn citations<'r, T: EntryLike, P: PartialEq>(
+pub(crate) fn citations<'r, 'c, T: EntryLike, P: PartialEq>(
     alloc: Global,
-    cites: DocumentCites<'r, '_, T, P>,
+    cites: DocumentCites<'r, 'c, T, P>,
     usages: &[IdentifierUsage],
     entry_states: FinalStates<'_>,
     mut printed: Vec<Printed>,
-    listed: &mut [Option<ListedCite<'r, T>>],
+    listed: &mut [Option<ListedCite<'r, 'c, T>>],
     effort: &mut Effort,
 ) -> Result<Vec<RenderedCitation>, AllocError>
     requires printed { ArePrinted T.answers cites entry_states.states.now usages.now
@@ -120,12 +110,12 @@ pub(crate) fn citations<'r, T: EntryLike, P: PartialEq>(
 }
 
 /// The citation of a request. Its cites follow the last one in the final order, and list the entries that they are the first cites of.
-fn request_citation<'r, T: EntryLike, P: PartialEq>(
+fn request_citation<'r, 'c, T: EntryLike, P: PartialEq>(
     alloc: Global,
-    printing: Printing<'r, '_, T, P>,
+    printing: Printing<'r, 'c, '_, T, P>,
     printed: &mut [Printed],
     last: &mut Option<LastCite<'r, T, P>>,
-    listed: &mut [Option<ListedCite<'r, T>>],
+    listed: &mut [Option<ListedCite<'r, 'c, T>>],
     effort: &mut Effort,
 ) -> Result<RenderedCitation, AllocError>
     requires printing { BelongTogether T.answers printing }
@@ -149,7 +139,8 @@ fn request_citation<'r, T: EntryLike, P: PartialEq>(
     let some_purpose = has_purpose(request);
     let arranged = arranged_cites(alloc, printing, some_purpose, printed)?;
     let shown = print_arranged(alloc, printing, printed, &arranged, last, listed, effort)?;
-    let citation = citation_of(alloc, &printing.style.layout, some_purpose, shown)?;
+    let quotes = printing.cites.context.joining_quotes();
+    let citation = citation_of(alloc, &printing.style.layout, quotes, some_purpose, shown)?;
     Ok(RenderedCitation {
         note_number: request.note_number(),
         citation,
@@ -166,7 +157,7 @@ fn has_purpose<T: EntryLike, P>(request: &CitationRequest<'_, T, P>) -> bool
 /// The cites of a request as they are arranged, without the names by which they were.
 fn arranged_cites<T, P>(
     alloc: Global,
-    printing: Printing<'_, '_, T, P>,
+    printing: Printing<'_, '_, '_, T, P>,
     some_purpose: bool,
     printed: &[Printed],
 ) -> Result<Vec<Arranged<'static>>, AllocError>
@@ -229,7 +220,7 @@ fn without_name(cite: &Arranged<'_>) -> Arranged<'static>
 fn gathered_cites<'p, T, P>(
     alloc: Global,
     request: &CitationRequest<'_, T, P>,
-    run: &[NumberedCite],
+    run: &[NumberedCite<'_>],
     printed: &'p [Printed],
     year_suffixes: &[Option<Suffix>],
 ) -> Result<Vec<Gathered<'p>>, AllocError>
@@ -283,13 +274,13 @@ fn printed_number(parts: &ElemChildren, number: usize) -> Option<usize>
 }
 
 /// What the shown cites of a request print, in their final order. All of them follow the last one, and list their entries.
-fn print_arranged<'r, T: EntryLike, P: PartialEq>(
+fn print_arranged<'r, 'c, T: EntryLike, P: PartialEq>(
     alloc: Global,
-    printing: Printing<'r, '_, T, P>,
+    printing: Printing<'r, 'c, '_, T, P>,
     printed: &mut [Printed],
     arranged: &[Arranged<'_>],
     last: &mut Option<LastCite<'r, T, P>>,
-    listed: &mut [Option<ListedCite<'r, T>>],
+    listed: &mut [Option<ListedCite<'r, 'c, T>>],
     effort: &mut Effort,
 ) -> Result<Vec<ShownCite<'r>>, AllocError>
     requires printing { BelongTogether T.answers printing }
@@ -303,6 +294,7 @@ fn print_arranged<'r, T: EntryLike, P: PartialEq>(
         (arranged_among T.answers printing.entry arranged.now)) }
     ensures effort { OnOk result (effort.new ≤ effort.old + length arranged.now) }
 {
+    let after_one = printing.style.ibid_after_one;
     let mut shown = Vec::with_capacity(alloc, arranged.len())?;
     for cite in arranged {
         let at = cite.cite.cite;
@@ -311,7 +303,7 @@ fn print_arranged<'r, T: EntryLike, P: PartialEq>(
         let next = FinalCite {
             item,
             cite: own,
-            ibid: ibid_at_last(last, item, own.entry),
+            ibid: ibid_of(*last, true, after_one, own.index, item, own.entry),
             usage: printing.usages[at],
         };
         list(&next, listed);
@@ -320,28 +312,17 @@ fn print_arranged<'r, T: EntryLike, P: PartialEq>(
         *last = Some(LastCite {
             item,
             entry: own.entry,
+            index: own.index,
         });
     }
     Ok(shown)
 }
 
-/// How a cite stands to the one before it in the final order.
-fn ibid_at_last<T: EntryLike, P: PartialEq>(
-    last: &Option<LastCite<'_, T, P>>,
-    item: &CitationItem<'_, T, P>,
-    entry: usize,
-) -> IbidState
-    ensures { result ≡ positions.ibid_after P.eq counts_at_last
-        (last_cite_view T.answers last.now) (item_view (λ e. entry) T.answers item.now) }
-{
-    match last {
-        Some(last) if last.entry == entry => ibid_after(Some(last.item), true, true, item),
-        _ => IbidState::Different,
-    }
-}
-
 /// Lists an entry by a cite of it, unless it is listed.
-fn list<'r, T: EntryLike, P>(next: &FinalCite<'r, T, P>, listed: &mut [Option<ListedCite<'r, T>>])
+fn list<'r, 'c, T: EntryLike, P>(
+    next: &FinalCite<'r, 'c, T, P>,
+    listed: &mut [Option<ListedCite<'r, 'c, T>>],
+)
     requires { next.now.cite.entry < length listed.old }
     ensures { (states : States) → map (option_map (listed_view T.answers states)) listed.new
         ≡ listed_with (map (option_map (listed_view T.answers states)) listed.old)
@@ -361,8 +342,8 @@ fn list<'r, T: EntryLike, P>(next: &FinalCite<'r, T, P>, listed: &mut [Option<Li
 /// Appends what a cite prints, if it is shown. By its final state and without its locator it has printed this tree, unless nothing is left
 /// of that.
 fn print_shown<'r, T: EntryLike, P>(
-    printing: Printing<'r, '_, T, P>,
-    next: &FinalCite<'_, T, P>,
+    printing: Printing<'r, '_, '_, T, P>,
+    next: &FinalCite<'_, '_, T, P>,
     cite: &Arranged<'_>,
     printed: ElemChildren,
     shown: &mut Vec<ShownCite<'r>>,
@@ -390,8 +371,8 @@ fn print_shown<'r, T: EntryLike, P>(
 /// What a cite prints. By its final state and without its locator it has printed this tree, unless nothing is left of that; it is not
 /// printed again where nothing else is asked for.
 fn printed_at_last<T: EntryLike, P>(
-    printing: Printing<'_, '_, T, P>,
-    next: &FinalCite<'_, T, P>,
+    printing: Printing<'_, '_, '_, T, P>,
+    next: &FinalCite<'_, '_, T, P>,
     cite: &Arranged<'_>,
     printed: ElemChildren,
     effort: &mut Effort,
@@ -423,7 +404,7 @@ fn printed_at_last<T: EntryLike, P>(
 
 /// Whether a cite prints what it has printed without its locator: it has none, is not collapsed and no cite for its year, and stands to the
 /// cite before it as it does in the text.
-fn prints_as_before<T: EntryLike, P>(next: &FinalCite<'_, T, P>, cite: &Arranged<'_>) -> bool
+fn prints_as_before<T: EntryLike, P>(next: &FinalCite<'_, '_, T, P>, cite: &Arranged<'_>) -> bool
     ensures locator { result ≡ true → next.now.item.now.locator ≡ None }
     ensures verdict { result ≡ true → cite.now.verdict ≡ None }
     ensures purpose { result ≡ true

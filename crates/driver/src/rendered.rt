@@ -11,8 +11,9 @@ pub struct Rendered {
     pub bibliography: Option<RenderedBibliography>,
     /// A citation for each request, in the order in which these were added.
     pub citations: Vec<RenderedCitation>,
-    /// How many cites and items of the bibliography styles were asked to print: at most five for each item of a request, and one for each
-    /// cited entry where there is a bibliography. It stays at the greatest number that it holds.
+    /// How many cites and items of the bibliography styles were asked to print: at most five for each item of a request, or six where given
+    /// names are printed before cites are compared, and one for each cited entry where there is a bibliography. It stays at the greatest
+    /// number that it holds.
     pub effort: u64,
 }
 

@@ -5,13 +5,16 @@ use Rattle.std.specs.Option.{option_map, unwrap_or}
 use Rattle.std.proofs.lemmas.List.{drop_more, drop_all, drop-set-lt, take_more_set, take-append-drop}
 use Rattle.rendering_taxonomy.specs.declared.formatting.Display.{Display}
 use Rattle.rendering_tree.specs.Metas.{Meta}
-use Rattle.rendering_tree.specs.Trees.{Child, Children, Elem, nothing, before, followed_by}
-use Rattle.rendering_tree.specs.Views.{child_view, children_view}
+use Rattle.rendering_tree.specs.Trees.{Child, Children, Elem, nothing, before, followed_by, simplified}
+use Rattle.rendering_tree.specs.Views.{child_view, children_view, tree_view}
 use Rattle.rendering_tree.specs.declared.element.ElemChild.{ElemChild}
+use Rattle.rendering_tree.specs.declared.element.ElemChildren.{ElemChildren}
 use Rattle.rendering_tree.proofs.SimplifySteps.{children-append, followed_by-assoc}
 use Rattle.rendering_tree.proofs.TreesParting.{children-set}
-use Rattle.driver_bibliography.specs.Substitution.{changed, changed_in, changed_or_others, is_some_names, names_changed_or_inside}
-use Rattle.driver_bibliography.specs.Views.{Changes}
+use Rattle.driver_bibliography.specs.Substitution.{changed, changed_in, changed_or_others, is_some_names, names_changed_or_inside, text_for, with_names}
+use Rattle.driver_bibliography.specs.Views.{Changes, children_for, repeated_view}
+use Rattle.driver_bibliography.specs.declared.repeats.Repetition.{Repetition}
+use Rattle.driver_bibliography.specs.declared.repeats.Repetition.TheVariants as repeats
 
 -- what is changed in a list that stands after another one
 abbrev pub after : Children → Option Children → Option Children
@@ -113,3 +116,15 @@ module _ (f : Children → Children) where
             ∙ inside_wanted d m xs (changed f xs)
             ∙ ap (λ o. unwrap_or o (Elem d m xs)) other;
       }
+
+-- a text stands for what is repeated, if that is something
+stands : (text : List ℕ) (r : Repetition) (tree : Children) → (r ≡ repeats.Nothing → ⊥) → with_names (children_for text (repeated_view r)) tree ≡ text_for text (repeated_view r) tree
+stands text repeats.Nothing tree some = absurd (some refl)
+stands text repeats.All tree some = refl
+stands text repeats.Lists tree some = refl
+stands text (repeats.First n) tree some = refl
+
+pub text_stands : {E : Type 0} (r : Result ElemChildren E) (text : List ℕ) (repeated : Repetition) (tree : Children) {new : Children} → (repeated ≡ repeats.Nothing → ⊥)
+    → new ≡ with_names (children_for text (repeated_view repeated)) tree → IfOk r (λ t. tree_view t ≡ simplified new) → IfOk r (λ t. tree_view t ≡ simplified (text_for text (repeated_view repeated) tree))
+text_stands (Ok t) text repeated tree some e h = h ∙ ap simplified (e ∙ stands text repeated tree some)
+text_stands (Err d) text repeated tree some e h = tt

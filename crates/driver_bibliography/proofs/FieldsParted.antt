@@ -1,5 +1,5 @@
 -- First fields that are taken out.
-use Rattle.std.proofs.Common.{◌≡◌, true≢false, List, [], ◌∷◌, ◌++◌, append_assoc, append-nil, length, map, refl, sym, ap, ◌∙◌, Option, Some, None, is_some, suc, Vec, Result, Ok, Err}
+use Rattle.std.proofs.Common.{◌≡◌, Bool, true≢false, List, [], ◌∷◌, ◌++◌, append_assoc, append-nil, length, map, refl, sym, ap, ◌∙◌, Option, Some, None, is_some, suc, Vec, Result, Ok, Err}
 use Rattle.std.specs.Global.{Global}
 use Rattle.std.specs.Prelude.{IfOk}
 use Rattle.std.specs.Option.{option_or}
@@ -16,9 +16,9 @@ use Rattle.rendering_taxonomy.specs.declared.style.SecondFieldAlign.{SecondField
 use Rattle.rendering_taxonomy.specs.declared.style.SubsequentAuthorSubstituteRule.{SubsequentAuthorSubstituteRule}
 
 -- something holds of each item
-pub repeats_long : (rule : SubsequentAuthorSubstituteRule) (last : Option Element) (trees : List Children) → length (repeats_after rule last trees) ≡ length trees
-repeats_long rule last [] = refl
-repeats_long rule last (item ∷ items) = ap suc (repeats_long rule (option_or (names_element item) last) items)
+pub repeats_long : (alone : Bool) (rule : SubsequentAuthorSubstituteRule) (last : Option Element) (trees : List Children) → length (repeats_after alone rule last trees) ≡ length trees
+repeats_long alone rule last [] = refl
+repeats_long alone rule last (item ∷ items) = ap suc (repeats_long alone rule (option_or (names_element item) last) items)
 
 -- items that were parted, and those that are left to be
 pub fields_go_on : (align : Option SecondFieldAlign) (items new : List ItemFields) (x : ElemChildren) (y : ItemFields) (rest whole : List ElemChildren) (all : List Fields) → whole ≡ x ∷ rest
@@ -35,8 +35,8 @@ pub fields_end : (align : Option SecondFieldAlign) (items : List ItemFields) (wh
 fields_end align items whole all none h = sym (append-nil (map fields_view items)) ∙ ap (λ xs. map fields_view items ++ map (fields_by align) (map tree_view xs)) (sym none) ∙ h
 
 -- what holds of items holds of as many
-pub as_many : (rule : SubsequentAuthorSubstituteRule) (rs : List Repetition) (trees : List ElemChildren) → map repeated_view rs ≡ repeats_after rule None (map tree_view trees) → length rs ≡ length trees
-as_many rule rs trees e = sym (length-map rs repeated_view) ∙ ap length e ∙ repeats_long rule None (map tree_view trees) ∙ length-map trees tree_view
+pub as_many : (alone : Bool) (rule : SubsequentAuthorSubstituteRule) (rs : List Repetition) (trees : List ElemChildren) → map repeated_view rs ≡ repeats_after alone rule None (map tree_view trees) → length rs ≡ length trees
+as_many alone rule rs trees e = sym (length-map rs repeated_view) ∙ ap length e ∙ repeats_long alone rule None (map tree_view trees) ∙ length-map trees tree_view
 
 -- the same of items that were made
 pub made_as : {E : Type 0} (r : Result (Vec ElemChildren Global) E) (before after : List Children) → before ≡ after → IfOk r (λ v. map tree_view v.items ≡ before) → IfOk r (λ v. map tree_view v.items ≡ after)

@@ -1,5 +1,5 @@
 -- Cases of substitution and first fields, computed.
-use Rattle.std.proofs.Common.{◌≡◌, ℕ, List, [], ◌∷◌, map, codes, refl, Some, None}
+use Rattle.std.proofs.Common.{◌≡◌, ℕ, false, List, [], ◌∷◌, map, codes, refl, Some, None}
 use Rattle.rendering_taxonomy.specs.Formats.{plain}
 use Rattle.rendering_tree.specs.Metas.{Names, Name, Number}
 use Rattle.rendering_tree.specs.Trees.{Child, Children, Text, Elem, nothing, before}
@@ -30,7 +30,7 @@ untitled title = before (Elem None (Some (Names [])) (before (words title) nothi
 
 -- the texts of items by a rule
 texts : SubsequentAuthorSubstituteRule → List Children → List (List ℕ)
-texts rule items = map plain_text (all_substituted rule (Some (codes "---")) items)
+texts rule items = map plain_text (all_substituted false rule (Some (codes "---")) items)
 
 p : Children
 p = item (codes "Roe") (codes "Lee") (codes "P")

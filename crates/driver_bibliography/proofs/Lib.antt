@@ -1,4 +1,6 @@
+pub mod AsElementsHolds
 pub mod ItemsCases
+pub mod ListsReplaced
 pub mod ChangedSteps
 pub mod NamedSteps
 pub mod NamesListed

@@ -1,5 +1,5 @@
 -- The items of a bibliography from what the style gives of each.
-use Rattle.std.specs.Prelude.{ℕ, List, map, Option, Some, None}
+use Rattle.std.specs.Prelude.{ℕ, Bool, List, map, Option, Some, None}
 use Rattle.rendering_tree.specs.Trees.{Children, Element, Parted, parted, simplified}
 use Rattle.rendering_style.specs.Styles.{Bibliography}
 use Rattle.driver_bibliography.specs.Substitution.{substituted, with_names_before}
@@ -11,10 +11,10 @@ pub record Fields : Type 0 where
   pub first_field : Option Element
   pub content : Children
 
--- the items, with the text instead of repeated names where the style has such a text
-abbrev pub all_substituted : SubsequentAuthorSubstituteRule → Option (List ℕ) → List Children → List Children
-all_substituted rule None trees = trees
-all_substituted rule (Some text) trees = map (substituted rule text) (with_names_before None trees)
+-- the items, with the text instead of repeated names where the style has such a text; whether it stands for names alone
+abbrev pub all_substituted : Bool → SubsequentAuthorSubstituteRule → Option (List ℕ) → List Children → List Children
+all_substituted alone rule None trees = trees
+all_substituted alone rule (Some text) trees = map (substituted alone rule text) (with_names_before None trees)
 
 -- an item without the first element that stands for something, which is its first field
 abbrev pub fields_of : Children → Parted → Fields
@@ -28,4 +28,4 @@ fields_by (Some align) tree = fields_of tree (parted tree)
 
 -- The items of a bibliography.
 abbrev pub items_of : Bibliography → List Children → List Fields
-items_of b trees = map (fields_by b.second_field_align) (all_substituted b.substitute_rule b.substitute trees)
+items_of b trees = map (fields_by b.second_field_align) (all_substituted b.substitutes_names_alone b.substitute_rule b.substitute trees)

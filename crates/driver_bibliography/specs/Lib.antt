@@ -1,3 +1,4 @@
 pub mod Substitution
 pub mod Items
+pub mod AsElements
 pub mod Views

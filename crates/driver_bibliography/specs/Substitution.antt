@@ -1,12 +1,12 @@
 -- How a text replaces names that repeat those of the item before.
-use Rattle.std.specs.Prelude.{ℕ, zero, suc, Bool, true, false, min, List, [], ◌∷◌, filter, length, if◌then◌else◌, Option, Some, None}
+use Rattle.std.specs.Prelude.{ℕ, zero, suc, Bool, true, false, ◌&&◌, ◌||◌, min, List, [], ◌∷◌, filter, length, if◌then◌else◌, Option, Some, None}
 use Rattle.std.specs.List.{common_prefix_len}
 use Rattle.std.specs.Option.{option_map, option_map_or, option_or, unwrap_or}
 use Rattle.std.specs.Cmp.Lexicographic.{pointwise}
 use Rattle.rendering_taxonomy.specs.Formats.{plain}
 use Rattle.rendering_tree.specs.Metas.{Meta, Name, is_names}
-use Rattle.rendering_tree.specs.Same.{is_element}
-use Rattle.rendering_tree.specs.Trees.{Child, Children, Text, Elem, Markup, Link, Transparent, nothing, before, Element, elements, simplified, names_element}
+use Rattle.rendering_tree.specs.Same.{are_children, is_element}
+use Rattle.rendering_tree.specs.Trees.{Child, Children, Text, Elem, Markup, Link, Transparent, nothing, before, Element, elements, followed_by, simplified, names_element}
 use Rattle.rendering_taxonomy.specs.declared.formatting.Display.{Display}
 use Rattle.rendering_taxonomy.specs.declared.style.SubsequentAuthorSubstituteRule.{SubsequentAuthorSubstituteRule}
 use Rattle.rendering_taxonomy.specs.declared.style.SubsequentAuthorSubstituteRule.TheVariants as rules
@@ -28,10 +28,11 @@ is_some_name m = option_map_or is_name m false
 abbrev pub name_list : Element → List Element
 name_list e = filter (λ n. is_some_name n.meta) (elements e.children)
 
--- What the text replaces of a names element: nothing, all of it, or so many of its single names, from the first on.
+-- What the text replaces of a names element: nothing, all of it, its lists of single names, or so many of these names, from the first on.
 pub data Repeated : Type 0 where
   none_of_them : Repeated
   all_of_them : Repeated
+  lists_of_them : Repeated
   first_of_them : ℕ → Repeated
 
 -- all of it, where the names are the same
@@ -39,26 +40,35 @@ abbrev pub all_if : Bool → Repeated
 all_if true = all_of_them
 all_if false = none_of_them
 
+-- all names, where they are the same: the element, or, where the text stands for names alone, the lists in it
+abbrev pub names_if : Bool → Bool → Repeated
+names_if alone same = if alone && same then lists_of_them else all_if same
+
+-- whether two single names are the same: whether their elements are, or, where the text stands for names alone, what they print
+abbrev pub is_same_name : Bool → Element → Element → Bool
+is_same_name false n m = is_element n m
+is_same_name true n m = are_children n.children m.children
+
 -- What is repeated of a names element without single names: all of it, where it is the same as the one before.
 abbrev pub repeated_whole : Element → Element → Repeated
 repeated_whole e last = all_if (is_element e last)
 
 -- what is repeated of single names by a rule, against those of the element before
-abbrev pub repeated_by : SubsequentAuthorSubstituteRule → List Element → List Element → Repeated
-repeated_by rules.CompleteAll names last = all_if (pointwise is_element names last)
-repeated_by rules.CompleteEach names last = if pointwise is_element names last then first_of_them (length names) else none_of_them
-repeated_by rules.PartialEach names last = first_of_them (common_prefix_len is_element names last)
-repeated_by rules.PartialFirst names last = first_of_them (min 1 (common_prefix_len is_element names last))
+abbrev pub repeated_by : Bool → SubsequentAuthorSubstituteRule → List Element → List Element → Repeated
+repeated_by alone rules.CompleteAll names last = names_if alone (pointwise (is_same_name alone) names last)
+repeated_by alone rules.CompleteEach names last = if pointwise (is_same_name alone) names last then first_of_them (length names) else none_of_them
+repeated_by alone rules.PartialEach names last = first_of_them (common_prefix_len (is_same_name alone) names last)
+repeated_by alone rules.PartialFirst names last = first_of_them (min 1 (common_prefix_len (is_same_name alone) names last))
 
 -- what is repeated of a names element, against the one before
-abbrev pub repeated_of : SubsequentAuthorSubstituteRule → Element → Element → List Element → Repeated
-repeated_of rule e last [] = repeated_whole e last
-repeated_of rule e last (n ∷ ns) = repeated_by rule (n ∷ ns) (name_list last)
+abbrev pub repeated_of : Bool → SubsequentAuthorSubstituteRule → Element → Element → List Element → Repeated
+repeated_of alone rule e last [] = repeated_whole e last
+repeated_of alone rule e last (n ∷ ns) = repeated_by alone rule (n ∷ ns) (name_list last)
 
 -- what is repeated of a names element by a rule, where there is one before it
-abbrev pub repeated : SubsequentAuthorSubstituteRule → Option Element → Option Element → Repeated
-repeated rule (Some last) (Some e) = repeated_of rule e last (name_list e)
-repeated rule last e = none_of_them
+abbrev pub repeated : Bool → SubsequentAuthorSubstituteRule → Option Element → Option Element → Repeated
+repeated alone rule (Some last) (Some e) = repeated_of alone rule e last (name_list e)
+repeated alone rule last e = none_of_them
 
 -- an element while n names are wanted: with none wanted as it is; a single name becomes the text; another one has what was made inside it
 abbrev pub name_replaced_or_inside : Children → Option Display → Option Meta → Children → Children × ℕ → ℕ → Child × ℕ
@@ -82,6 +92,47 @@ abbrev mutual
   pub names_replaced : Children → Children → ℕ → Children × ℕ
   names_replaced text nothing n = (nothing, n)
   names_replaced text (before x xs) n = then_others (names_replaced_in text x n) (λ k. names_replaced text xs k)
+
+-- whether a child is a single name
+abbrev pub is_single_name : Child → Bool
+is_single_name (Text f cs) = false
+is_single_name (Elem d m xs) = is_some_name m
+is_single_name (Markup cs) = false
+is_single_name (Link f cs url) = false
+is_single_name (Transparent f k) = false
+
+-- whether one of the children is
+abbrev pub has_single_names : Children → Bool
+has_single_names nothing = false
+has_single_names (before x xs) = is_single_name x || has_single_names xs
+
+-- what stands before the first single name
+abbrev pub before_names : Children → Children
+before_names nothing = nothing
+before_names (before x xs) = if is_single_name x then nothing else before x (before_names xs)
+
+-- what stands after the last one, where there are some
+abbrev pub after_names : Children → Children
+after_names nothing = nothing
+after_names (before x xs) = if has_single_names xs then after_names xs else xs
+
+-- children with the text in the place of the list of single names in them, and of what stands between these
+abbrev pub list_replaced : Children → Children → Children
+list_replaced text xs = followed_by (before_names xs) (followed_by text (after_names xs))
+
+abbrev mutual
+  -- a child with the text in the place of each list of single names
+  pub lists_replaced_in : Children → Child → Child
+  lists_replaced_in text (Text f cs) = Text f cs
+  lists_replaced_in text (Elem d m xs) = Elem d m (if has_single_names xs then list_replaced text xs else lists_replaced text xs)
+  lists_replaced_in text (Markup cs) = Markup cs
+  lists_replaced_in text (Link f cs url) = Link f cs url
+  lists_replaced_in text (Transparent f k) = Transparent f k
+
+  -- children with it
+  pub lists_replaced : Children → Children → Children
+  lists_replaced text nothing = nothing
+  lists_replaced text (before x xs) = before (lists_replaced_in text x) (lists_replaced text xs)
 
 -- whether an element stands for a names node
 abbrev pub is_some_names : Option Meta → Bool
@@ -118,6 +169,7 @@ with_names change tree = unwrap_or (changed change tree) tree
 abbrev pub text_for : List ℕ → Repeated → Children → Children
 text_for text none_of_them tree = tree
 text_for text all_of_them tree = with_names (λ xs. text_alone text) tree
+text_for text lists_of_them tree = with_names (lists_replaced (text_alone text)) tree
 text_for text (first_of_them n) tree = with_names (λ xs. (names_replaced (text_alone text) xs n).0) tree
 
 -- each item with the names element of the last item before it that has one
@@ -126,5 +178,5 @@ with_names_before last [] = []
 with_names_before last (tree ∷ trees) = (last, tree) ∷ with_names_before (option_or (names_element tree) last) trees
 
 -- An item after a names element, with the text instead of what it repeats.
-abbrev pub substituted : SubsequentAuthorSubstituteRule → List ℕ → Option Element × Children → Children
-substituted rule text (last, tree) = simplified (text_for text (repeated rule last (names_element tree)) tree)
+abbrev pub substituted : Bool → SubsequentAuthorSubstituteRule → List ℕ → Option Element × Children → Children
+substituted alone rule text (last, tree) = simplified (text_for text (repeated alone rule last (names_element tree)) tree)

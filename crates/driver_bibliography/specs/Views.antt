@@ -6,7 +6,7 @@ use Rattle.laws.specs.Text.{spelled}
 use Rattle.rendering_tree.specs.Trees.{Child, Children, Elem, Element, names_element, simplified}
 use Rattle.rendering_tree.specs.Views.{element_view, tree_view}
 use Rattle.driver_bibliography.specs.Items as items
-use Rattle.driver_bibliography.specs.Substitution.{Repeated, none_of_them, all_of_them, first_of_them, with_names_before, is_some_name, names_replaced, repeated, text_alone, text_for}
+use Rattle.driver_bibliography.specs.Substitution.{Repeated, none_of_them, all_of_them, lists_of_them, first_of_them, with_names_before, is_some_name, lists_replaced, names_replaced, repeated, text_alone, text_for}
 use Rattle.rendering_taxonomy.specs.declared.style.SubsequentAuthorSubstituteRule.{SubsequentAuthorSubstituteRule}
 use Rattle.rendering_tree.specs.declared.element.Elem.{Elem as ElemOf}
 use Rattle.driver_bibliography.specs.declared.fields.ItemFields.{ItemFields}
@@ -37,6 +37,7 @@ as_child e = Elem e.display e.meta e.children
 abbrev pub repeated_view : Repetition → Repeated
 repeated_view repeats.Nothing = none_of_them
 repeated_view repeats.All = all_of_them
+repeated_view repeats.Lists = lists_of_them
 repeated_view (repeats.First n) = first_of_them n
 
 -- an item in fields
@@ -44,13 +45,14 @@ abbrev pub fields_view : ItemFields → items.Fields
 fields_view f = record { first_field = option_map (λ e. element_view e) f.first_field; content = tree_view f.content }
 
 -- what of the names of each item repeats those before them
-abbrev pub repeats_after : SubsequentAuthorSubstituteRule → Option Element → List Children → List Repeated
-repeats_after rule last trees = map (λ p. repeated rule p.0 (names_element p.1)) (with_names_before last trees)
+abbrev pub repeats_after : Bool → SubsequentAuthorSubstituteRule → Option Element → List Children → List Repeated
+repeats_after alone rule last trees = map (λ p. repeated alone rule p.0 (names_element p.1)) (with_names_before last trees)
 
 -- what names contain in which a text stands for what is repeated
 abbrev pub children_for : List ℕ → Repeated → Children → Children
 children_for text none_of_them xs = xs
 children_for text all_of_them xs = text_alone text
+children_for text lists_of_them xs = lists_replaced (text_alone text) xs
 children_for text (first_of_them n) xs = (names_replaced (text_alone text) xs n).0
 
 -- items in each of which a text stands for what is repeated

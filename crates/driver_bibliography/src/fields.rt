@@ -22,8 +22,8 @@ pub struct ItemFields {
     pub content: ElemChildren,
 }
 
-/// The items of a bibliography from what its style prints of each: a text stands for names that repeat those of the item before,
-/// and the first field is taken out where the second one is aligned, if the style says so.
+/// The items of a bibliography from what its style prints of each: a text stands for names that repeat those of the item before, with
+/// their labels and affixes or without, and the first field is taken out where the second one is aligned, if the style says so.
 ///
 /// # Errors
 /// Out of memory.
@@ -37,6 +37,7 @@ pub fn items(
 {
     let substituted = substitute_all(
         alloc,
+        bibliography.substitutes_names_alone,
         bibliography.subsequent_author_substitute_rule,
         bibliography.subsequent_author_substitute.as_deref(),
         trees,
@@ -44,18 +45,19 @@ pub fn items(
     fields_of_all(alloc, bibliography.second_field_align, substituted)
 }
 
-/// Items in which a text stands for repeated names, where there is such a text.
+/// Items in which a text stands for repeated names, where there is such a text. `alone` is whether it stands for names alone.
 fn substitute_all(
     alloc: Global,
+    alone: bool,
     rule: SubsequentAuthorSubstituteRule,
     text: Option<&str>,
     trees: Vec<ElemChildren>,
 ) -> Result<Vec<ElemChildren>, AllocError>
     ensures { IfOk result (λ v. map tree_view v.items
-        ≡ all_substituted rule (spelled_if text.entry) (map tree_view trees.items)) }
+        ≡ all_substituted alone rule (spelled_if text.entry) (map tree_view trees.items)) }
 {
     match text {
-        Some(text) => substitute_repeated(alloc, rule, text, trees),
+        Some(text) => substitute_repeated(alloc, alone, rule, text, trees),
         None => Ok(trees),
     }
 }
@@ -63,14 +65,15 @@ fn substitute_all(
 /// Items in which a text stands for repeated names.
 fn substitute_repeated(
     alloc: Global,
+    alone: bool,
     rule: SubsequentAuthorSubstituteRule,
     text: &str,
     trees: Vec<ElemChildren>,
 ) -> Result<Vec<ElemChildren>, AllocError>
     ensures { IfOk result (λ v. map tree_view v.items
-        ≡ all_substituted rule (Some (chars text.now)) (map tree_view trees.items)) }
+        ≡ all_substituted alone rule (Some (chars text.now)) (map tree_view trees.items)) }
 {
-    let repeats = repeats(alloc, rule, &trees)?;
+    let repeats = repeats(alloc, alone, rule, &trees)?;
     substitute_each(alloc, text, &repeats, trees)
 }
 

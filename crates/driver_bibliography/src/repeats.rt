@@ -4,40 +4,44 @@ ghost use Rattle.std.specs.Prelude.{◌≡◌, ◌++◌, ◌∷◌, None, IfOk, 
 ghost use Rattle.std.specs.Cmp.Lexicographic.{pointwise};
 ghost use Rattle.std.specs.List.{common_prefix_len};
 ghost use Rattle.std.specs.Option.{option_or};
-ghost use Rattle.rendering_tree.specs.Same.{is_element};
 ghost use Rattle.rendering_tree.specs.Trees.{elements, elements_in};
 ghost use Rattle.rendering_tree.specs.Views.{child_view, element_view, tree_view};
-ghost use Rattle.driver_bibliography.specs.Substitution.{all_if, is_some_name, name_list, repeated, repeated_by, repeated_of};
+ghost use Rattle.driver_bibliography.specs.Substitution.{all_if, is_same_name, is_some_name, name_list, names_if, repeated, repeated_by, repeated_of};
 ghost use Rattle.driver_bibliography.specs.Views.{borrowed_elements_view, is_single, lent_element_view, repeated_view, repeats_after};
 
 use rendering_taxonomy::SubsequentAuthorSubstituteRule;
-use rendering_tree::{Elem, ElemChild, ElemChildren, ElemMeta, are_equal_elements};
+use rendering_tree::{
+    Elem, ElemChild, ElemChildren, ElemMeta, are_equal_elements, are_equal_trees,
+};
 use std::alloc::{AllocError, Global};
 
 /// What a text stands for of an item's names.
 #[derive(Clone, Copy)]
 pub(crate) enum Repetition {
     Nothing,
-    /// All names as one.
+    /// All names as one, with what stands round them.
     All,
+    /// Each list of single names.
+    Lists,
     /// So many single names, from the first on.
     First(usize),
 }
 
-/// What of each item's names repeats those of the last item before it that has some.
+/// What of each item's names repeats those of the last item before it that has some. `alone` is whether a text stands for names alone.
 pub(crate) fn repeats(
     alloc: Global,
+    alone: bool,
     rule: SubsequentAuthorSubstituteRule,
     trees: &[ElemChildren],
 ) -> Result<Vec<Repetition>, AllocError>
     ensures { IfOk result (λ v. map repeated_view v.items
-        ≡ repeats_after rule None (map tree_view trees.now)) }
+        ≡ repeats_after alone rule None (map tree_view trees.now)) }
 {
     let mut repeats = Vec::with_capacity(alloc, trees.len())?;
     let mut last = None;
     for tree in trees {
         let names = tree.find_names();
-        repeats.push(repeated(alloc, rule, last, names)?)?;
+        repeats.push(repeated(alloc, alone, rule, last, names)?)?;
         last = latest(names, last);
     }
     Ok(repeats)
@@ -54,15 +58,16 @@ fn latest<'a>(names: Option<&'a Elem>, last: Option<&'a Elem>) -> Option<&'a Ele
 /// What of names repeats those before them, where there are both.
 fn repeated(
     alloc: Global,
+    alone: bool,
     rule: SubsequentAuthorSubstituteRule,
     last: Option<&Elem>,
     names: Option<&Elem>,
 ) -> Result<Repetition, AllocError>
     ensures { IfOk result (λ r. repeated_view r
-        ≡ repeated rule (lent_element_view last.entry) (lent_element_view names.entry)) }
+        ≡ repeated alone rule (lent_element_view last.entry) (lent_element_view names.entry)) }
 {
     match (last, names) {
-        (Some(last), Some(names)) => repeated_of(alloc, rule, names, last),
+        (Some(last), Some(names)) => repeated_of(alloc, alone, rule, names, last),
         _ => Ok(Repetition::Nothing),
     }
 }
@@ -70,11 +75,12 @@ fn repeated(
 /// What of names repeats those before them. Without single names it is all or nothing.
 fn repeated_of(
     alloc: Global,
+    alone: bool,
     rule: SubsequentAuthorSubstituteRule,
     names: &Elem,
     last: &Elem,
 ) -> Result<Repetition, AllocError>
-    ensures { IfOk result (λ r. repeated_view r ≡ repeated_of rule (element_view names.now)
+    ensures { IfOk result (λ r. repeated_view r ≡ repeated_of alone rule (element_view names.now)
         (element_view last.now) (name_list (element_view names.now))) }
 {
     let singles = single_names(alloc, names)?;
@@ -82,7 +88,7 @@ fn repeated_of(
         return Ok(all_if(are_equal_elements(names, last)));
     }
     let last_singles = single_names(alloc, last)?;
-    Ok(repeated_by(rule, &singles, &last_singles))
+    Ok(repeated_by(alone, rule, &singles, &last_singles))
 }
 
 /// That all names repeat, where they are the same.
@@ -96,47 +102,77 @@ fn all_if(are_same: bool) -> Repetition
     }
 }
 
+/// That all names repeat, where they are the same: as one, or, where a text stands for names alone, each list of them.
+fn names_if(alone: bool, are_same: bool) -> Repetition
+    ensures { repeated_view result ≡ names_if alone are_same }
+{
+    if alone && are_same {
+        return Repetition::Lists;
+    }
+    all_if(are_same)
+}
+
 /// What of single names repeats those before them, by the rule.
-fn repeated_by(rule: SubsequentAuthorSubstituteRule, names: &[&Elem], last: &[&Elem]) -> Repetition
-    ensures { repeated_view result
-        ≡ repeated_by rule (borrowed_elements_view names.now) (borrowed_elements_view last.now) }
+fn repeated_by(
+    alone: bool,
+    rule: SubsequentAuthorSubstituteRule,
+    names: &[&Elem],
+    last: &[&Elem],
+) -> Repetition
+    ensures { repeated_view result ≡ repeated_by alone rule
+        (borrowed_elements_view names.now) (borrowed_elements_view last.now) }
 {
     match rule {
-        SubsequentAuthorSubstituteRule::CompleteAll => all_if(are_same(names, last)),
+        SubsequentAuthorSubstituteRule::CompleteAll => {
+            names_if(alone, are_same(alone, names, last))
+        }
         SubsequentAuthorSubstituteRule::CompleteEach => {
-            if are_same(names, last) {
+            if are_same(alone, names, last) {
                 Repetition::First(names.len())
             } else {
                 Repetition::Nothing
             }
         }
-        SubsequentAuthorSubstituteRule::PartialEach => Repetition::First(common_len(names, last)),
+        SubsequentAuthorSubstituteRule::PartialEach => {
+            Repetition::First(common_len(alone, names, last))
+        }
         SubsequentAuthorSubstituteRule::PartialFirst => {
-            Repetition::First(common_len(names, last).min(1))
+            Repetition::First(common_len(alone, names, last).min(1))
         }
     }
 }
 
-fn are_same(names: &[&Elem], last: &[&Elem]) -> bool
-    ensures { result ≡ pointwise is_element (borrowed_elements_view names.now)
+fn are_same(alone: bool, names: &[&Elem], last: &[&Elem]) -> bool
+    ensures { result ≡ pointwise (is_same_name alone) (borrowed_elements_view names.now)
         (borrowed_elements_view last.now) }
 {
-    names.len() == last.len() && common_len(names, last) == names.len()
+    names.len() == last.len() && common_len(alone, names, last) == names.len()
 }
 
 /// How many names are the same, from the first on.
-fn common_len(names: &[&Elem], last: &[&Elem]) -> usize
-    ensures { result ≡ common_prefix_len is_element
+fn common_len(alone: bool, names: &[&Elem], last: &[&Elem]) -> usize
+    ensures { result ≡ common_prefix_len (is_same_name alone)
         (borrowed_elements_view names.now) (borrowed_elements_view last.now) }
 {
     let mut count = 0;
     while count < names.len() && count < last.len() {
-        if !are_equal_elements(names[count], last[count]) {
+        if !is_same_name(alone, names[count], last[count]) {
             return count;
         }
         count += 1;
     }
     count
+}
+
+/// Whether two single names are the same: whether their elements are, or, where a text stands for names alone, what they print.
+fn is_same_name(alone: bool, name: &Elem, other: &Elem) -> bool
+    ensures { result ≡ is_same_name alone (element_view name.now) (element_view other.now) }
+{
+    if alone {
+        are_equal_trees(&name.children, &other.children)
+    } else {
+        are_equal_elements(name, other)
+    }
 }
 
 /// The single names in an element.

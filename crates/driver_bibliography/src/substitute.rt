@@ -8,6 +8,7 @@ ghost use Rattle.rendering_tree.specs.Views.{child_view, element_view, children_
 ghost use Rattle.driver_bibliography.specs.Substitution.{changed, changed_in, is_some_names, names_replaced, names_replaced_in, text_alone, text_for};
 ghost use Rattle.driver_bibliography.specs.Views.{Changes, as_child, children_for, repeated_view};
 
+use crate::lists::replace_lists;
 use crate::repeats::{Repetition, is_name};
 use rendering_taxonomy::Formatting;
 use rendering_tree::{Elem, ElemChild, ElemChildren, ElemMeta, Formatted, simplify_children};
@@ -110,6 +111,7 @@ fn change_children(
     match repeated {
         Repetition::Nothing => {}
         Repetition::All => *parts = text_alone(alloc, text)?,
+        Repetition::Lists => replace_lists(alloc, &mut parts.0, text)?,
         Repetition::First(count) => {
             change_singles(alloc, &mut parts.0, text, count)?;
         }
@@ -174,7 +176,7 @@ fn change_single(
 }
 
 /// A text in the default formatting, alone.
-fn text_alone(alloc: Global, text: &str) -> Result<ElemChildren, AllocError>
+pub(crate) fn text_alone(alloc: Global, text: &str) -> Result<ElemChildren, AllocError>
     ensures { IfOk result (λ t. tree_view t ≡ text_alone (chars text.now)) }
 {
     let mut alone = ElemChildren::new(alloc);

@@ -1,9 +1,11 @@
 -- Cases of blocks and of what collapsing leaves, computed.
 use Rattle.std.proofs.Common.{◌≡◌, ℕ, ◌+◌, Bool, true, false, ◌==◌, List, [], ◌∷◌, map, codes, refl, Option, Some, None}
 use Rattle.rendering_taxonomy.specs.Formats.{plain}
-use Rattle.rendering_tree.specs.Trees.{Text, nothing, before}
+use Rattle.literature_values.specs.PersonViews.{Named}
+use Rattle.rendering_tree.specs.Metas.{Name, Names}
+use Rattle.rendering_tree.specs.Trees.{Elem, Text, nothing, before}
 use Rattle.rendering_style.specs.Styles.{Citation}
-use Rattle.driver_blocks.specs.Blocks.{Gathered, are_same_names}
+use Rattle.driver_blocks.specs.Blocks.{Gathered, are_alike_names, are_same_names, is_of_block}
 use Rattle.driver_blocks.specs.Runs.{Arranged, runs_of}
 use Rattle.rendering_dates.specs.Dates.{dash}
 use Rattle.driver_blocks.specs.Collapsing.{arranged}
@@ -11,6 +13,7 @@ use Rattle.rendering_taxonomy.specs.declared.cite.CollapseVerdict.{CollapseVerdi
 use Rattle.rendering_taxonomy.specs.declared.cite.CollapseVerdict.TheVariants as verdicts
 use Rattle.rendering_taxonomy.specs.declared.style.Collapse.{Collapse}
 use Rattle.rendering_taxonomy.specs.declared.style.Collapse.TheVariants as collapses
+use Rattle.rendering_taxonomy.specs.declared.variable.NameVariable.TheVariants as authors
 
 rising : runs_of (λ m n. n == m + 1) (1 ∷ 2 ∷ 3 ∷ 5 ∷ 6 ∷ 6 ∷ []) ≡ (1 ∷ 2 ∷ 3 ∷ []) ∷ (5 ∷ 6 ∷ []) ∷ (6 ∷ []) ∷ []
 rising = refl
@@ -23,6 +26,7 @@ collapsing mode inside c = record c {
   cite_group_delimiter = inside;
   after_collapse_delimiter = Some (codes "! ");
   year_suffix_delimiter = Some (codes ",");
+  gathers_by_text = false;
 }
 
 -- a cite by a word, with names
@@ -183,3 +187,52 @@ before_no_number c = refl
 -- cites without names are no block
 no_names : are_same_names None None ≡ false
 no_names = refl
+
+-- where cites are not gathered by the text, those with the same names are of one block
+by_the_same_names : {X : Type 0} (x y : Gathered X) → is_of_block false x y ≡ are_same_names x.names y.names
+by_the_same_names x y = refl
+
+-- a person by the family name, and two names elements that name others and print the same
+person : List ℕ → Named
+person cs = record { name = cs; given_name = None; prefix = None; suffix = None }
+
+naming : List ℕ → ℕ → Gathered ℕ
+naming cs n = record (named n (codes "Kwan et al.")) {
+  names = Some (record {
+    display = None;
+    meta = Some (Names ((person (codes "Kwan") ∷ person cs ∷ [], authors.Author) ∷ []));
+    children = before (Text plain (codes "Kwan et al.")) nothing;
+  });
+}
+
+by_people :
+    (c : Citation)
+    → map earlier (arranged (collapsing None comma c) false (naming (codes "Li") 0 ∷ naming (codes "Roe") 1 ∷ naming (codes "Li") 2 ∷ [])) ≡ all_after 0 semicolon ∷ all_after 2 comma ∷ all_after 1 semicolon ∷ []
+unfolding earlier collapsing naming person named all_after semicolon comma
+by_people c = refl
+
+-- a person with a given name, and a cite that prints the family name of the first of two people and no more
+given : List ℕ → Named
+given cs = record { name = codes "Kwan"; given_name = Some cs; prefix = None; suffix = None }
+
+showing : List ℕ → List ℕ → ℕ → Gathered ℕ
+showing first second n = record (named n (codes "Kwan et al.")) {
+  names = Some (record {
+    display = None;
+    meta = Some (Names ((given first ∷ given second ∷ [], authors.Author) ∷ []));
+    children = before (Elem None (Some (Name authors.Author 0)) (before (Text plain (codes "Kwan")) nothing)) nothing;
+  });
+}
+
+-- whoever is left out does not count where cites are gathered by the text, and the given names of who is printed do
+by_text : is_of_block true (showing (codes "Li") (codes "Bo") 0) (showing (codes "Li") (codes "Wu") 1) ≡ true
+unfolding showing given named lib.Utf8.encode
+by_text = refl
+
+by_shown : is_of_block true (showing (codes "Li") (codes "Bo") 0) (showing (codes "Wu") (codes "Bo") 1) ≡ false
+unfolding showing given named lib.Utf8.encode
+by_shown = refl
+
+-- nor are they where cites are gathered by the text
+no_names_by_text : are_alike_names None None ≡ false
+no_names_by_text = refl

@@ -1,14 +1,19 @@
 -- Cites gathered one by one.
 use Rattle.std.proofs.Common.{◌≡◌, ℕ, suc, ◌+◌, Bool, true, false, true≢false, ◌||◌, List, [], ◌∷◌, ◌++◌, append_assoc, append-nil, length, map, get_or, ◌<◌, filter, take, drop, flat_map, refl, sym, ap, ◌∙◌, arith, Option, Some, None}
 use Rattle.std.specs.Prelude.{if◌then◌else◌}
+use Rattle.std.specs.Cmp.{IsEquivalence, IsPartialEquivalence, decided, on_equiv}
 use Rattle.std.specs.List.{list_any, enumerate_from}
+use Rattle.std.specs.Str.{bytes_eq}
+use Rattle.std.specs.Str.{bytes_eq}
 use Rattle.std.proofs.lemmas.List.{map_more}
 use Rattle.std.proofs.lemmas.List.Elements.{filter-append}
+use Rattle.std.proofs.lemmas.Slice.Eq.{bytes_eq-Decides}
+use Rattle.std.proofs.lemmas.Slice.Eq.{bytes_eq-Decides}
 use Rattle.rendering_tree.specs.Same.{is_element}
 use Rattle.rendering_tree.specs.Trees.{Element}
 use Rattle.rendering_tree.proofs.SameDecided.{elements_are_one}
 use Rattle.driver_blocks.specs.Blocks as blocks
-use Rattle.driver_blocks.specs.Blocks.{gathered, gathered_at, is_of_block, are_same_names}
+use Rattle.driver_blocks.specs.Blocks.{gathered, gathered_at, is_of_block, are_alike_names, are_same_names, names_text}
 use Rattle.driver_blocks.specs.Views.{gathered_view, put_in}
 use Rattle.driver_blocks.specs.declared.cite.Gathered.{Gathered}
 
@@ -141,41 +146,54 @@ module _ {Y : Type 0} (same : Y → Y → Bool) where
     pub gathered-last : (ys : List Y) → gathered same (ys ++ x ∷ []) ≡ put_in same x (gathered same ys)
     gathered-last ys = gathered_as (ys ++ x ∷ []) ∙ put_last [] ys refl ∙ ap (put_in same x) (sym (gathered_as ys))
 
--- elements that are the same are so either way, and one after the other
-element-symmetric : (e f : Element) → is_element e f ≡ is_element f e
-element-symmetric e f = by_value (is_element e f) (is_element f e) refl refl
-  where
-    by_value : (b c : Bool) → is_element e f ≡ b → is_element f e ≡ c → is_element e f ≡ is_element f e
-    by_value true true g h = g ∙ sym h
-    by_value false false g h = g ∙ sym h
-    by_value true false g h = absurd (true≢false (sym ((elements_are_one f e).1 (sym ((elements_are_one e f).0 g))) ∙ h))
-    by_value false true g h = absurd (true≢false (sym ((elements_are_one e f).1 (sym ((elements_are_one f e).0 h))) ∙ g))
+-- elements that are the same, and those that print the same text
+same_elements : IsEquivalence is_element
+same_elements = decided is_element elements_are_one
 
-element-transitive : (d e f : Element) → is_element d e ≡ true → is_element e f ≡ true → is_element d f ≡ true
-element-transitive d e f g h = (elements_are_one d f).1 ((elements_are_one d e).0 g ∙ (elements_are_one e f).0 h)
+alike_elements : IsEquivalence (λ e f. bytes_eq (names_text e) (names_text f))
+alike_elements = on_equiv names_text (decided bytes_eq bytes_eq-Decides)
 
-names-symmetric : (a b : Option Element) → are_same_names a b ≡ are_same_names b a
-names-symmetric None None = refl
-names-symmetric None (Some f) = refl
-names-symmetric (Some e) None = refl
-names-symmetric (Some e) (Some f) = element-symmetric e f
+same-symmetric : (a b : Option Element) → are_same_names a b ≡ are_same_names b a
+same-symmetric None None = refl
+same-symmetric None (Some f) = refl
+same-symmetric (Some e) None = refl
+same-symmetric (Some e) (Some f) = same_elements.symm e f
 
-names-transitive : (a b c : Option Element) → are_same_names a b ≡ true → are_same_names b c ≡ true → are_same_names a c ≡ true
-names-transitive None b c g h = absurd (true≢false (sym g))
-names-transitive (Some d) None c g h = absurd (true≢false (sym g))
-names-transitive (Some d) (Some e) None g h = absurd (true≢false (sym h))
-names-transitive (Some d) (Some e) (Some f) g h = element-transitive d e f g h
+same-transitive : (a b c : Option Element) → are_same_names a b ≡ true → are_same_names b c ≡ true → are_same_names a c ≡ true
+same-transitive None b c g h = absurd (true≢false (sym g))
+same-transitive (Some d) None c g h = absurd (true≢false (sym g))
+same-transitive (Some d) (Some e) None g h = absurd (true≢false (sym h))
+same-transitive (Some d) (Some e) (Some f) g h = same_elements.congr d e f g ∙ h
+
+alike-symmetric : (a b : Option Element) → are_alike_names a b ≡ are_alike_names b a
+alike-symmetric None None = refl
+alike-symmetric None (Some f) = refl
+alike-symmetric (Some e) None = refl
+alike-symmetric (Some e) (Some f) = alike_elements.symm e f
+
+alike-transitive : (a b c : Option Element) → are_alike_names a b ≡ true → are_alike_names b c ≡ true → are_alike_names a c ≡ true
+alike-transitive None b c g h = absurd (true≢false (sym g))
+alike-transitive (Some d) None c g h = absurd (true≢false (sym g))
+alike-transitive (Some d) (Some e) None g h = absurd (true≢false (sym h))
+alike-transitive (Some d) (Some e) (Some f) g h = alike_elements.congr d e f g ∙ h
+
+-- cites of one block are so either way, and one after the other
+pub one_block : {X : Type 0} (by_text : Bool) → IsPartialEquivalence (is_of_block {X = X} by_text)
+one_block false = record { symm = λ x y. same-symmetric x.names y.names; trans = λ x y z. same-transitive x.names y.names z.names }
+one_block true = record { symm = λ x y. alike-symmetric x.names y.names; trans = λ x y z. alike-transitive x.names y.names z.names }
 
 -- a further cite is put in the block of its names
-pub block-last : {X : Type 0} (xs : List (blocks.Gathered X)) (x : blocks.Gathered X) → gathered is_of_block (xs ++ x ∷ []) ≡ put_in is_of_block x (gathered is_of_block xs)
-block-last xs x = gathered-last is_of_block (λ a b. names-symmetric a.names b.names) (λ a b c. names-transitive a.names b.names c.names) x xs
+pub block-last : {X : Type 0} (by_text : Bool) (xs : List (blocks.Gathered X)) (x : blocks.Gathered X)
+    → gathered (is_of_block by_text) (xs ++ x ∷ []) ≡ put_in (is_of_block by_text) x (gathered (is_of_block by_text) xs)
+block-last by_text xs x = gathered-last (is_of_block by_text) (one_block by_text).symm (one_block by_text).trans x xs
 
 -- one more cite
-pub gathered_more : (cites : List Gathered) (i : ℕ) (x : Gathered) (now new : List (List (blocks.Gathered ℕ))) → i < length cites → x ≡ get_or cites i x → now ≡ gathered is_of_block (map gathered_view (take i cites))
-    → new ≡ put_in is_of_block (gathered_view x) now → new ≡ gathered is_of_block (map gathered_view (take (i + 1) cites))
-gathered_more cites i x now new less is h e =
+pub gathered_more : (by_text : Bool) (cites : List Gathered) (i : ℕ) (x : Gathered) (now new : List (List (blocks.Gathered ℕ)))
+    → i < length cites → x ≡ get_or cites i x → now ≡ gathered (is_of_block by_text) (map gathered_view (take i cites))
+    → new ≡ put_in (is_of_block by_text) (gathered_view x) now → new ≡ gathered (is_of_block by_text) (map gathered_view (take (i + 1) cites))
+gathered_more by_text cites i x now new less is h e =
     e
-    ∙ ap (put_in is_of_block (gathered_view x)) h
-    ∙ sym (block-last (map gathered_view (take i cites)) (gathered_view x))
-    ∙ ap (λ y. gathered is_of_block (map gathered_view (take i cites) ++ gathered_view y ∷ [])) is
-    ∙ ap (gathered is_of_block) (sym (map_more gathered_view cites i x less))
+    ∙ ap (put_in (is_of_block by_text) (gathered_view x)) h
+    ∙ sym (block-last by_text (map gathered_view (take i cites)) (gathered_view x))
+    ∙ ap (λ y. gathered (is_of_block by_text) (map gathered_view (take i cites) ++ gathered_view y ∷ [])) is
+    ∙ ap (gathered (is_of_block by_text)) (sym (map_more gathered_view cites i x less))

@@ -52,9 +52,10 @@ pub block_at : (bs : List (Vec Gathered Global)) (i : ℕ) (b : Vec Gathered Glo
 block_at bs i b less is = ap (λ (v : Vec Gathered Global). map gathered_view v.items) is ∙ sym (get_or-map (λ (v : Vec Gathered Global). map gathered_view v.items) bs i b [] less)
 
 -- a cite is put in where the block at its index got it
-pub put_pushed : (bs : List (Vec Gathered Global)) (i : ℕ) (old new : Vec Gathered Global) (x : Gathered) → IsPut is_of_block (gathered_view x) (blocks_view bs) (Some i) → old ≡ get_or bs i old → new.items ≡ old.items ++ x ∷ []
-    → blocks_view (set bs i new) ≡ put_in is_of_block (gathered_view x) (blocks_view bs)
-put_pushed bs i old new x (less, put) is e =
+pub put_pushed : (by_text : Bool) (bs : List (Vec Gathered Global)) (i : ℕ) (old new : Vec Gathered Global) (x : Gathered)
+    → IsPut (is_of_block by_text) (gathered_view x) (blocks_view bs) (Some i) → old ≡ get_or bs i old → new.items ≡ old.items ++ x ∷ []
+    → blocks_view (set bs i new) ≡ put_in (is_of_block by_text) (gathered_view x) (blocks_view bs)
+put_pushed by_text bs i old new x (less, put) is e =
     let within : i < length bs = omega (arith, less, length-map bs (λ (v : Vec Gathered Global). map gathered_view v.items)) in
     map-set (λ (v : Vec Gathered Global). map gathered_view v.items) bs i new
     ∙ ap (λ b. set (blocks_view bs) i b) (ap (map gathered_view) e ∙ map-append gathered_view old.items (x ∷ []) ∙ ap (λ b. b ++ gathered_view x ∷ []) (block_at bs i old within is))

@@ -4,7 +4,7 @@ use Rattle.std.specs.Prelude.{nat_le}
 use Rattle.std.proofs.lemmas.List.{length-map, map-append}
 use Rattle.rendering_style.specs.Styles.{Citation}
 use Rattle.driver_blocks.specs.Runs as runs
-use Rattle.driver_blocks.specs.Runs.{runs_of, is_long, last_after_dash, collapsed_run}
+use Rattle.driver_blocks.specs.Runs.{is_long, last_after_dash, collapsed_run}
 use Rattle.driver_blocks.specs.Collapsing.{after_run}
 use Rattle.driver_blocks.specs.Views.{after_dash, arranged_view, hidden}
 use Rattle.driver_blocks.specs.declared.cite.Arranged.{Arranged}

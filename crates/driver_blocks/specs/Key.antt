@@ -1,15 +1,12 @@
 -- What names print and whom they name, in one text.
-use Rattle.std.specs.Prelude.{ℕ, List, [], ◌∷◌, ◌++◌, unwrap_or, Option, Some}
+use Rattle.std.specs.Prelude.{ℕ, Bool, List, [], ◌∷◌, ◌++◌, if◌then◌else◌, Option, Some}
 use Rattle.std.specs.List.{flat_map}
 use Rattle.laws.specs.Characters.{dollar_sign}
 use Rattle.laws.specs.Text.{text}
-use Rattle.literature_values.specs.PersonViews.{Named}
 use Rattle.rendering_tree.specs.Metas.{Answered, Meta, Names}
 use Rattle.rendering_tree.specs.Trees.{Child, Children, Element, Text, Elem, Markup, Link, Transparent, nothing, before}
-
--- all parts of a name
-abbrev pub name_text : Named → List ℕ
-name_text p = p.name ++ unwrap_or p.given_name [] ++ unwrap_or p.prefix [] ++ unwrap_or p.suffix []
+use Rattle.driver_blocks.specs.Blocks.{names_text}
+use Rattle.driver_blocks.specs.Shown.{name_text}
 
 -- the names of the people of variables
 abbrev pub names_in : List Answered → List ℕ
@@ -38,6 +35,6 @@ abbrev mutual
 abbrev pub element_key : Element → List ℕ
 element_key e = people_text e.meta ++ children_key e.children
 
--- the key of names, as a text
-abbrev pub names_key : Element → List ℕ
-names_key e = text (element_key e)
+-- the key of names, as a text: what they print and whom they name, or, where cites are gathered by the text, what they print of whom
+abbrev pub names_key : Bool → Element → List ℕ
+names_key by_text e = if by_text then names_text e else text (element_key e)

@@ -1,3 +1,4 @@
+pub mod Shown
 pub mod Blocks
 pub mod Runs
 pub mod Collapsing

@@ -1,6 +1,6 @@
 //! What names print and whom they name, under which blocks are looked up.
 
-ghost use Rattle.std.specs.Prelude.{◌≡◌, ◌++◌, IfOk, OnOk, string_bytes};
+ghost use Rattle.std.specs.Prelude.{◌≡◌, ◌++◌, IfOk, OnOk, false, string_bytes};
 ghost use Rattle.std.specs.Str.{chars};
 ghost use Rattle.laws.specs.Text.{characters};
 ghost use Rattle.rendering_tree.specs.Trees.{Markup};
@@ -8,13 +8,25 @@ ghost use Rattle.rendering_tree.specs.Views.{child_view, element_view, tree_view
 ghost use Rattle.driver_blocks.specs.Key.{child_key, children_key, element_key, names_key};
 
 use crate::people::push_people_of;
+use crate::shown::names_text;
 use rendering_tree::{Elem, ElemChild, ElemChildren};
 use std::alloc::{AllocError, Global};
 use texts::{empty_text, push_character, push_text};
 
+/// What a names element prints of whom, where cites are gathered by the text, and else that and whom it names.
+pub(crate) fn names_key(alloc: Global, by_text: bool, names: &Elem) -> Result<String, AllocError>
+    ensures { IfOk result (λ s. string_bytes s ≡ names_key by_text (element_view names.now)) }
+{
+    if by_text {
+        names_text(alloc, names)
+    } else {
+        whole_key(alloc, names)
+    }
+}
+
 /// All texts of a names element, with the names of the people before each element that stands for some.
-pub(crate) fn names_key(alloc: Global, names: &Elem) -> Result<String, AllocError>
-    ensures { IfOk result (λ s. string_bytes s ≡ names_key (element_view names.now)) }
+fn whole_key(alloc: Global, names: &Elem) -> Result<String, AllocError>
+    ensures { IfOk result (λ s. string_bytes s ≡ names_key false (element_view names.now)) }
 {
     let mut key = empty_text(alloc);
     push_element(&mut key, names)?;

@@ -8,6 +8,7 @@ mod key;
 mod numbers;
 mod people;
 mod runs;
+mod shown;
 mod suffixes;
 mod years;
 

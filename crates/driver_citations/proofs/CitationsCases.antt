@@ -4,7 +4,8 @@ use Rattle.rendering_taxonomy.specs.Formats.{plain, unchanged}
 use Rattle.rendering_tree.specs.Trees.{Children, Text, Elem, Link, nothing, before}
 use Rattle.rendering_tree.specs.Writing.{plain_text}
 use Rattle.rendering_style.specs.Styles.{Layout}
-use Rattle.driver_citations.specs.Citations.{Shown, citation_of, end_of, suffixed}
+use Rattle.driver_citations.specs.Citations.{Shown, citation_of, suffixed}
+use Rattle.driver_citations.specs.Ends.{end_of}
 use Rattle.driver_citations.specs.Standalone.{has_content, joined_alone}
 
 -- a layout in parentheses
@@ -19,32 +20,52 @@ words cs = before (Text plain cs) nothing
 cite : ℕ → List ℕ → Shown
 cite n cs = record { delimiter = Some (codes "; "); index = n; tree = words cs }
 
-two_cites : plain_text (citation_of (layout (codes ")")) false (cite 0 (codes "A") ∷ cite 1 (codes "B") ∷ [])) ≡ codes "(A; B)"
+two_cites : plain_text (citation_of None (layout (codes ")")) false (cite 0 (codes "A") ∷ cite 1 (codes "B") ∷ [])) ≡ codes "(A; B)"
 unfolding layout cite words
 two_cites = refl
 
-with_a_purpose : plain_text (citation_of (layout (codes ")")) true (cite 0 (codes "A") ∷ cite 1 (codes "B") ∷ [])) ≡ codes "A; B"
+with_a_purpose : plain_text (citation_of None (layout (codes ")")) true (cite 0 (codes "A") ∷ cite 1 (codes "B") ∷ [])) ≡ codes "A; B"
 unfolding layout cite words
 with_a_purpose = refl
 
-not_repeated : plain_text (citation_of (layout (codes ".")) false (cite 0 (codes "A.") ∷ [])) ≡ codes "(A."
+not_repeated : plain_text (citation_of None (layout (codes ".")) false (cite 0 (codes "A.") ∷ [])) ≡ codes "(A."
 unfolding layout cite words
 not_repeated = refl
 
-all_hidden : citation_of (layout (codes ")")) false [] ≡ nothing
+all_hidden : citation_of None (layout (codes ")")) false [] ≡ nothing
 all_hidden = refl
 
 -- cites that print nothing have their affixes and delimiters
-empty_cites : plain_text (citation_of (layout (codes ")")) false (record (cite 0 []) { tree = nothing } ∷ record (cite 1 []) { tree = nothing } ∷ [])) ≡ codes "(; )"
+empty_cites : plain_text (citation_of None (layout (codes ")")) false (record (cite 0 []) { tree = nothing } ∷ record (cite 1 []) { tree = nothing } ∷ [])) ≡ codes "(; )"
 unfolding layout cite words
 empty_cites = refl
 
-alone : plain_text (joined_alone (layout (codes ")")) (words (codes "1") ∷ words (codes "1") ∷ [])) ≡ codes "(1; 1)"
+-- where texts are joined they have not
+no_cites : citation_of (Some []) (layout (codes ")")) false (record (cite 0 []) { tree = nothing } ∷ record (cite 1 []) { tree = nothing } ∷ []) ≡ nothing
+unfolding layout cite words
+no_cites = refl
+
+-- and the suffix goes inside a close quote, also after a delimiter
+inside_quotes : plain_text (citation_of (Some (codes "”" ∷ [])) (layout (codes ".")) false (cite 0 (codes "A”") ∷ cite 1 (codes "B”") ∷ [])) ≡ codes "(A”; B.”"
+unfolding layout cite words
+inside_quotes = refl
+
+-- but not after a mark
+after_a_mark : plain_text (citation_of (Some (codes "”" ∷ [])) (layout (codes ".")) false (cite 0 (codes "A?”") ∷ [])) ≡ codes "(A?”"
+unfolding layout cite words
+after_a_mark = refl
+
+-- outside of quotes no mark is doubled
+not_doubled : plain_text (citation_of (Some (codes "”" ∷ [])) (layout (codes ".)")) false (cite 0 (codes "A.") ∷ [])) ≡ codes "(A.)"
+unfolding layout cite words
+not_doubled = refl
+
+alone : plain_text (joined_alone None (layout (codes ")")) (words (codes "1") ∷ words (codes "1") ∷ [])) ≡ codes "(1; 1)"
 unfolding layout words
 alone = refl
 
 -- where no delimiter is given, a comma
-comma : plain_text (joined_alone (record (layout (codes ")")) { delimiter = None }) (words (codes "1") ∷ words (codes "2") ∷ [])) ≡ codes "(1, 2)"
+comma : plain_text (joined_alone None (record (layout (codes ")")) { delimiter = None }) (words (codes "1") ∷ words (codes "2") ∷ [])) ≡ codes "(1, 2)"
 unfolding layout words
 comma = refl
 
@@ -60,5 +81,5 @@ link_at_last : end_of (before (Link plain (codes "a") (codes "b")) nothing) ≡ 
 link_at_last = refl
 
 -- two texts that look alike end in what spans them
-over_two_texts : plain_text (suffixed plain (codes "ab") (before (Text plain (codes "a")) (before (Text plain (codes "b")) nothing))) ≡ codes "ab"
+over_two_texts : plain_text (suffixed None plain (codes "ab") (before (Text plain (codes "a")) (before (Text plain (codes "b")) nothing))) ≡ codes "ab"
 over_two_texts = refl

@@ -1,8 +1,10 @@
 -- Items of citations outside of any document, one after the other.
-use Rattle.std.proofs.Common.{◌≡◌, ℕ, ◌+◌, ◌<◌, ◌≤◌, Bool, true, false, true≢false, not, List, [], ◌∷◌, ◌++◌, append_assoc, append-nil, filter, length, map, drop, get_or, refl, sym, ap, ◌∙◌, Result, Ok, Err, IfOk, Vec}
+use Rattle.std.proofs.Common.{◌≡◌, ℕ, ◌+◌, ◌<◌, ◌≤◌, Bool, true, false, true≢false, not, List, [], ◌∷◌, ◌++◌, append_assoc, append-nil, filter, length, map, drop, get_or, refl, sym, ap, ◌∙◌, Option, Result, Ok, Err, IfOk}
 use Rattle.std.specs.Prelude.{if◌then◌else◌}
 use Rattle.std.proofs.lemmas.List.{drop_all, drop_more}
 use Rattle.rendering_context.specs.Views as contexts
+use Rattle.rendering_page.specs.Pages.{Quotes}
+use Rattle.rendering_style.specs.Styles.{Layout}
 use Rattle.rendering_context.specs.declared.locator.LocatorPayload.{LocatorPayload}
 use Rattle.rendering_context.specs.declared.locator.LocatorPayload.TheVariants as payloads
 use Rattle.rendering_context.specs.declared.locator.SpecificLocator.{SpecificLocator}
@@ -12,7 +14,7 @@ use Rattle.rendering_tree.specs.declared.element.ElemChildren.{ElemChildren}
 use Rattle.rendering_context.specs.Contexts.{StyleContext}
 use Rattle.driver_requests.specs.Requests.{Item, plain_locator, plain_payload}
 use Rattle.driver_requests.specs.Views.{request_locator_view, request_payload_view}
-use Rattle.driver_citations.specs.Standalone.{has_content, printed_alone, all_alone, alone, with_content}
+use Rattle.driver_citations.specs.Standalone.{has_content, joined_alone, printed_alone, all_alone, alone, with_content}
 
 payload_plain : {P : Type 0} (p : LocatorPayload P) → contexts.payload_view p ≡ plain_payload (request_payload_view p)
 payload_plain (payloads.Str s) = refl
@@ -69,6 +71,6 @@ some_content t true now new is h e = e ∙ ap (λ b. now ++ (if b then t ∷ [] 
 some_content t false now new is h e = absurd (true≢false (sym h))
 
 -- what items print in a style is what they print in the style of their request
-pub trees_are : {P A E : Type 0} (x y : StyleContext) (is js : List (Item P)) (r : Result (Vec ElemChildren A) E) → x ≡ y → is ≡ js → IfOk r (λ v. map tree_view v.items ≡ all_alone x is) → IfOk r (λ v. map tree_view v.items ≡ all_alone y js)
-trees_are x y is js (Err e) a b h = tt
-trees_are x y is js (Ok v) a b h = h ∙ (λ k. all_alone (a k) (b k))
+pub alone_is : {E : Type 0} (o p : Option Quotes) (l m : Layout) (ts us : List Children) (r : Result ElemChildren E) → o ≡ p → l ≡ m → ts ≡ us → IfOk r (λ t. tree_view t ≡ joined_alone o l ts) → IfOk r (λ t. tree_view t ≡ joined_alone p m us)
+alone_is o p l m ts us (Err e) a b c h = tt
+alone_is o p l m ts us (Ok t) a b c h = h ∙ (λ k. joined_alone (a k) (b k) (c k))

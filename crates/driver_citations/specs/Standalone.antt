@@ -1,16 +1,17 @@
 -- A citation outside of any document.
-use Rattle.std.specs.Prelude.{ℕ, Bool, false, not, List, [], ◌∷◌, map, filter, if◌then◌else◌, None}
+use Rattle.std.specs.Prelude.{ℕ, Bool, false, not, List, [], ◌∷◌, fold, map, filter, if◌then◌else◌, Option, None}
 use Rattle.std.specs.Option.{option_map, unwrap_or}
-use Rattle.rendering_page.specs.Pages.{prints}
 use Rattle.rendering_taxonomy.specs.declared.formatting.Formatting.{Formatting}
-use Rattle.rendering_tree.specs.Trees.{Children, Text, nothing, before, flat, followed_by, simplified}
+use Rattle.rendering_tree.specs.Trees.{Children, nothing, flat, followed_by, simplified}
 use Rattle.rendering_style.specs.Styles.{Layout}
 use Rattle.rendering_names.specs.Persons.{comma_and_space}
 use Rattle.rendering_context.specs.Cites.{CiteProperties, undisambiguated}
 use Rattle.rendering_context.specs.Contexts.{StyleContext}
 use Rattle.rendering.specs.Purposes.{citation}
+use Rattle.rendering.specs.Words.{joining_quotes}
+use Rattle.rendering_page.specs.Pages.{Quotes, prints}
 use Rattle.driver_requests.specs.Requests.{Item, Request, plain_locator}
-use Rattle.driver_citations.specs.Citations.{citation_look, affixed}
+use Rattle.driver_citations.specs.Citations.{citation_look, affixed, text_after}
 use Rattle.rendering_taxonomy.specs.declared.cite.IbidState.TheVariants as ibids
 use Rattle.rendering_taxonomy.specs.declared.cite.IdentifierUsage.TheVariants as usages
 
@@ -27,6 +28,7 @@ properties_alone i = record {
   ibid = ibids.Different;
   disambiguation = undisambiguated;
   identifier_usage = usages.None;
+  first_names = [];
 }
 
 -- what an item of such a citation prints
@@ -37,19 +39,18 @@ printed_alone x i = (citation x i.entry.answers (properties_alone i) None i.purp
 abbrev pub has_content : Children → Bool
 has_content tree = prints 0 (flat tree)
 
--- trees one after the other, each after a text
-abbrev pub after_tree : Formatting → List ℕ → List Children → Children
-after_tree f between [] = nothing
-after_tree f between (t ∷ ts) = before (Text f between) (followed_by t (after_tree f between ts))
+-- a tree after others, and a text before it
+abbrev pub tree_after : Option Quotes → Formatting → List ℕ → Children → Children → Children
+tree_after o f between xs t = followed_by (text_after o f between xs) t
 
 -- trees one after the other, with the delimiter of the layout between them
-abbrev pub delimited : Layout → Children → List Children → Children
-delimited l t ts = followed_by t (after_tree (citation_look l) (unwrap_or l.delimiter comma_and_space) ts)
+abbrev pub delimited : Option Quotes → Layout → Children → List Children → Children
+delimited o l t ts = fold (tree_after o (citation_look l) (unwrap_or l.delimiter comma_and_space)) t ts
 
 -- what items print, in the affixes of the layout; where there is none, nothing
-abbrev pub joined_alone : Layout → List Children → Children
-joined_alone l [] = nothing
-joined_alone l (t ∷ ts) = simplified (affixed l (delimited l t ts))
+abbrev pub joined_alone : Option Quotes → Layout → List Children → Children
+joined_alone o l [] = nothing
+joined_alone o l (t ∷ ts) = simplified (affixed o l (delimited o l t ts))
 
 -- the items of a request that are not hidden
 abbrev pub shown_items : {P : Type 0} → Request P → List (Item P)
@@ -61,7 +62,7 @@ trees_alone r = filter has_content (map (printed_alone r.context) (shown_items r
 
 -- A citation outside of any document.
 abbrev pub standalone_citation : {P : Type 0} → Request P → Children
-standalone_citation r = joined_alone r.context.style.citation.layout (trees_alone r)
+standalone_citation r = joined_alone (joining_quotes r.context) r.context.style.citation.layout (trees_alone r)
 
 -- what items of a citation outside of any document print, but hidden ones and what is white space alone
 abbrev pub all_alone : {P : Type 0} → StyleContext → List (Item P) → List Children

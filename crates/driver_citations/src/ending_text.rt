@@ -4,7 +4,7 @@ ghost use Rattle.std.specs.Prelude.{◌≡◌, bytes_eq, drop, length};
 ghost use Rattle.std.specs.Str.{chars};
 ghost use Rattle.rendering_page.specs.Tail.{ends_in};
 ghost use Rattle.rendering_tree.specs.Views.{child_view, tree_view};
-ghost use Rattle.driver_citations.specs.Citations.{end_of, end_of_child};
+ghost use Rattle.driver_citations.specs.Ends.{end_of, end_of_child};
 
 use rendering_tree::{ElemChild, ElemChildren};
 use texts::{no_text, split_first};
@@ -41,7 +41,7 @@ pub(crate) fn ends_in(end: &str, text: &str) -> bool
 }
 
 /// The number of a text's characters.
-fn char_count(text: &str) -> usize
+pub(crate) fn char_count(text: &str) -> usize
     ensures { result ≡ length (chars text.now) }
 {
     text.chars().count()

@@ -5,19 +5,21 @@ ghost use Rattle.std.specs.Option.{option_map, unwrap_or};
 ghost use Rattle.std.specs.Str.{chars};
 ghost use Rattle.laws.specs.Text.{characters};
 ghost use Rattle.rendering_style.specs.Views.{layout_view};
+ghost use Rattle.rendering_tree.specs.Trees.{nothing};
 ghost use Rattle.rendering_tree.specs.Views.{tree_view};
-ghost use Rattle.driver_citations.specs.Citations.{citation_look, followed_by_text};
+ghost use Rattle.driver_citations.specs.Citations.{citation_look, text_after};
 ghost use Rattle.rendering_names.specs.Persons.{comma_and_space};
-ghost use Rattle.driver_citations.specs.Joining.{delimited_trees};
+ghost use Rattle.driver_citations.specs.Joining.{trees_put};
 ghost use Rattle.driver_citations.specs.Standalone as standalone;
 ghost use Rattle.driver_citations.specs.Standalone.{joined_alone, printed_alone, properties_alone, all_alone, alone, with_content};
 ghost use Rattle.driver_requests.specs.Views.{item_view, request_view};
 ghost use Rattle.rendering.specs.Views.{style_context_view};
+ghost use Rattle.rendering_page.specs.Views.{quotes_view};
 ghost use Rattle.rendering_context.specs.Views.{cite_properties_view};
 
 use crate::citation::{affixed, append};
 use crate::contents::has_content;
-use crate::layout_texts::{citation_look, push_own};
+use crate::layout_texts::{citation_look, push_after};
 use crate::request_parts::{context_for, plain_locator};
 use driver_requests::{CitationItem, CitationRequest};
 use rendering::{Effort, StyleContext};
@@ -43,20 +45,21 @@ pub fn standalone_citation<T: EntryLike, P: Drop>(
     ensures { IfOk result (λ t. tree_view t
         ≡ standalone.standalone_citation (request_view (λ e. 0) T.answers request.entry)) }
 {
-    let trees = trees_alone(alloc, &request)?;
-    joined_alone(alloc, &request.style().parts().citation.layout, trees)
+    citation_alone(alloc, &request)
 }
 
-/// What the items of a request that are not hidden print, but for what is white space alone.
-fn trees_alone<T: EntryLike, P>(
+/// What a request prints outside of any document.
+fn citation_alone<T: EntryLike, P>(
     alloc: Global,
     request: &CitationRequest<'_, T, P>,
-) -> Result<Vec<ElemChildren>, AllocError>
-    ensures { IfOk result (λ v. map tree_view v.items
-        ≡ standalone.trees_alone (request_view (λ e. 0) T.answers request.now)) }
+) -> Result<ElemChildren, AllocError>
+    ensures { IfOk result (λ t. tree_view t
+        ≡ standalone.standalone_citation (request_view (λ e. 0) T.answers request.now)) }
 {
-    let context = context_for(alloc, request)?;
-    print_items(alloc, &context, request.items.as_slice())
+    let context = context_for(alloc, &*request)?;
+    let trees = print_items(alloc, &context, request.items.as_slice())?;
+    let layout = &request.style().parts().citation.layout;
+    joined_alone(alloc, layout, context.joining_quotes(), trees)
 }
 
 /// What items that are not hidden print, but for what is white space alone.
@@ -138,6 +141,7 @@ fn properties_alone<'i, T: EntryLike, P>(item: &'i CitationItem<'_, T, P>) -> Ci
         ibid: IbidState::Different,
         disambiguation: DisambiguateState::None,
         identifier_usage: IdentifierUsage::None,
+        first_names: None,
     }
 }
 
@@ -145,17 +149,20 @@ fn properties_alone<'i, T: EntryLike, P>(item: &'i CitationItem<'_, T, P>) -> Ci
 fn joined_alone(
     alloc: Global,
     layout: &Layout,
+    quotes: Option<&[&str]>,
     trees: Vec<ElemChildren>,
 ) -> Result<ElemChildren, AllocError>
     ensures { IfOk result (λ t. tree_view t
-        ≡ joined_alone (layout_view layout.now) (map tree_view trees.items)) }
+        ≡ joined_alone (option_map (λ q. quotes_view q.now) quotes.entry) (layout_view layout.now)
+        (map tree_view trees.items)) }
 {
     if trees.is_empty() {
         return Ok(ElemChildren::new(alloc));
     }
     let look = citation_look(layout);
-    let inside = delimited(alloc, look, delimiter(&layout.delimiter), trees)?;
-    affixed(alloc, layout, inside)
+    let between = delimiter(&layout.delimiter);
+    let inside = delimited(alloc, look, quotes, between, trees)?;
+    affixed(alloc, layout, quotes, inside)
 }
 
 /// The delimiter of a layout, or else a comma and a space.
@@ -172,16 +179,18 @@ fn delimiter(text: &Option<String>) -> &str
 fn delimited(
     alloc: Global,
     look: Formatting,
+    quotes: Option<&[&str]>,
     between: &str,
     trees: Vec<ElemChildren>,
 ) -> Result<ElemChildren, AllocError>
     ensures { IfOk result (λ t. tree_view t
-        ≡ delimited_trees look (chars between.now) true (map tree_view trees.items)) }
+        ≡ trees_put (option_map (λ q. quotes_view q.now) quotes.entry) look (chars between.now) true
+        nothing (map tree_view trees.items)) }
 {
     let mut inside = ElemChildren::new(alloc);
     let mut is_first = true;
     for tree in trees {
-        push_between(alloc, look, between, is_first, &mut inside)?;
+        push_between(alloc, look, quotes, between, is_first, &mut inside)?;
         append(tree, &mut inside)?;
         is_first = false;
     }
@@ -192,15 +201,17 @@ fn delimited(
 fn push_between(
     alloc: Global,
     look: Formatting,
+    quotes: Option<&[&str]>,
     between: &str,
     is_first: bool,
     inside: &mut ElemChildren,
 ) -> Result<(), AllocError>
     ensures { OnOk result (tree_view inside.new ≡ (if is_first then tree_view inside.old
-        else followed_by_text look (chars between.now) (tree_view inside.old))) }
+        else text_after (option_map (λ q. quotes_view q.now) quotes.entry) look (chars between.now)
+        (tree_view inside.old))) }
 {
     if is_first {
         return Ok(());
     }
-    push_own(alloc, look, between, inside)
+    push_after(alloc, look, quotes, between, inside)
 }

@@ -16,7 +16,7 @@ use Rattle.driver_disambiguation.specs.States.{is_given_to, suffixes_overflow}
 use Rattle.driver_names.specs.Prints as prints
 use Rattle.driver_names.specs.Names.{Member, distinguished, own_names, states_by_names_of, states_by_names}
 use Rattle.driver_disambiguation.specs.Rounds as rounds
-use Rattle.driver_disambiguation.specs.Rounds.{states_by_choose, choose_beside, states_by_branches, is_given_to_class, unless_given}
+use Rattle.driver_disambiguation.specs.Rounds.{chosen, states_by_choose, choose_beside, states_by_branches, is_given_to_class, unless_given}
 use Rattle.laws.proofs.Results.{guard_ok, ok_is}
 use Rattle.driver_disambiguation.specs.Gathered.{AllInRange, given_from, given_to_classes}
 use Rattle.driver_names.specs.Views.{class_view, given_view, given_states_view}
@@ -51,9 +51,19 @@ one_beside : (b : Bool) (g : GivenState) → AllInRange (g ∷ []) → AllInRang
 one_beside true g has = refl
 one_beside false g has = has
 
+in_range_all : (o : Origin) (ss : List prints.Printed) → AllInRange (map (chosen o) ss)
+in_range_all o [] = refl
+in_range_all o (s ∷ ss) = in_range_all o ss
+
+either_in_range : (b : Bool) (gs hs : List GivenState) → AllInRange gs → AllInRange hs → AllInRange (cond b gs hs)
+either_in_range true gs hs first second = first
+either_in_range false gs hs first second = second
+
 in_range_chosen : (o : Origin) (ss : List prints.Printed) → AllInRange (states_by_choose o ss)
 in_range_chosen o [] = refl
-in_range_chosen o (s ∷ ss) = in_range_each (choose_beside o s.entry) (λ t. one_beside (nat_eq t.entry s.entry) _ refl) ss
+in_range_chosen o (s ∷ ss) =
+    either_in_range s.first_chooses_too (map (chosen o) (s ∷ ss)) (flat_map (choose_beside o s.entry) ss) (in_range_all o (s ∷ ss))
+    (in_range_each (choose_beside o s.entry) (λ t. one_beside (nat_eq t.entry s.entry) _ refl) ss)
 
 one_of_two : (b : Bool) (gs : List GivenState) → AllInRange gs → AllInRange (cond b gs [])
 one_of_two true gs has = has

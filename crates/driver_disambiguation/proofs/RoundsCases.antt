@@ -1,5 +1,5 @@
 -- Cases of states, computed.
-use Rattle.std.proofs.Common.{◌≡◌, ℕ, Bool, true, false, List, [], ◌∷◌, codes, refl, Some, None}
+use Rattle.std.proofs.Common.{◌≡◌, ℕ, Bool, true, false, cond, ◌&&◌, List, [], ◌∷◌, codes, refl, ap, Some, None}
 use Rattle.std.specs.Prelude.{◌==◌, nat_lt}
 use Rattle.literature_values.specs.PersonViews.{Named}
 use Rattle.rendering_taxonomy.specs.Formats.{plain}
@@ -9,10 +9,12 @@ use Rattle.rendering_style.specs.Styles.{Citation}
 use Rattle.rendering_people.specs.Properties.{Properties, all_shown}
 use Rattle.rendering_context.specs.Cites.{DisambiguateState, undisambiguated, by_names, by_choose, by_suffix, names_of}
 use Rattle.driver_requests.specs.Suffixes.{Origin}
-use Rattle.driver_names.specs.Prints.{given_to, Candidate}
+use Rattle.sorting.specs.Sorted.{sorted}
+use Rattle.std.specs.List.{flat_map, list_any}
+use Rattle.driver_names.specs.Prints.{given_to, Candidate, Printed}
 use Rattle.driver_disambiguation.specs.States.{joined_for, states_after}
-use Rattle.driver_disambiguation.specs.Classes.{parts}
-use Rattle.driver_disambiguation.specs.Rounds.{disambiguated}
+use Rattle.driver_disambiguation.specs.Classes.{entries_of, parts}
+use Rattle.driver_disambiguation.specs.Rounds.{by_number, choose_beside, disambiguated, states_by_choose, states_by_suffixes, suffixes_for}
 use Rattle.rendering_taxonomy.specs.declared.name.DisambiguatedNameForm.TheVariants as forms
 use Rattle.rendering_taxonomy.specs.declared.variable.NameVariable.TheVariants as name
 
@@ -22,7 +24,8 @@ in_parts = refl
 
 -- a style that adds year suffixes, and no given names
 adding_suffix : Citation → Citation
-adding_suffix c = record c { add_names = false; add_givenname = false; add_year_suffix = true }
+adding_suffix c =
+    record c { add_names = false; add_givenname = false; add_year_suffix = true; first_chooses_too = false; same_entry_is_no_rival = false; suffixes_by_number = false }
 
 -- a date that prints a text
 dated : List ℕ → Children
@@ -30,7 +33,7 @@ dated cs = before (Elem None (Some metas.Date) (before (Text plain cs) nothing))
 
 -- a cite that prints a date alone
 cite : Citation → ℕ → List ℕ → Candidate
-cite c entry cs = record { entry = entry; has_date = true; style = adding_suffix c; printed = λ state. dated cs; met_disambiguate = false; names = None }
+cite c entry cs = record { entry = entry; number = entry; has_date = true; style = adding_suffix c; printed = λ state. dated cs; met_disambiguate = false; names = None }
 
 two_alike : (c : Citation) → (disambiguated false 2 (cite c 0 (codes "A") ∷ cite c 1 (codes "A") ∷ cite c 1 (codes "A") ∷ [])).states ≡ by_suffix 0 ∷ by_suffix 1 ∷ []
 unfolding cite dated adding_suffix
@@ -54,12 +57,33 @@ branching cs ds state = dated cs
 
 -- a cite for which the test `disambiguate` was evaluated
 asked : Citation → ℕ → List ℕ → Candidate
-asked c entry ds = record { entry = entry; has_date = true; style = adding_suffix c; printed = branching (codes "Kwan") ds; met_disambiguate = true; names = None }
+asked c entry ds = record { entry = entry; number = entry; has_date = true; style = adding_suffix c; printed = branching (codes "Kwan") ds; met_disambiguate = true; names = None }
 
 -- all cites of the first entry are passed over
 but_the_first : (c : Citation) → (disambiguated false 2 (asked c 0 (codes "T") ∷ asked c 0 (codes "T") ∷ asked c 1 (codes "U") ∷ [])).states ≡ undisambiguated ∷ by_choose ∷ []
 unfolding asked branching dated adding_suffix
 but_the_first c = refl
+
+-- a style that leaves none of them out
+choosing_all : Citation → Citation
+choosing_all c = record (adding_suffix c) { first_chooses_too = true }
+
+-- the first entry takes the branch too
+with_the_first :
+    (c : Citation)
+    → (disambiguated false 2 (record (asked c 0 (codes "T")) { style = choosing_all c } ∷ record (asked c 0 (codes "T")) { style = choosing_all c } ∷ record (asked c 1 (codes "U")) { style = choosing_all c } ∷ [])).states
+    ≡ by_choose ∷ by_choose ∷ []
+unfolding asked branching dated adding_suffix choosing_all
+with_the_first c = refl
+
+-- a cite whose entry has a number, in a style that gives year suffixes by these
+numbered : Citation → ℕ → ℕ → List ℕ → Candidate
+numbered c entry n cs = record (cite c entry cs) { number = n; style = record (adding_suffix c) { suffixes_by_number = true } }
+
+-- year suffixes by numbers, not by first cites
+by_numbers : (c : Citation) → (disambiguated false 3 (numbered c 0 2 (codes "A") ∷ numbered c 1 0 (codes "A") ∷ numbered c 2 1 (codes "A") ∷ numbered c 1 0 (codes "A") ∷ [])).states ≡ by_suffix 2 ∷ by_suffix 0 ∷ by_suffix 1 ∷ []
+unfolding cite dated adding_suffix numbered
+by_numbers c = refl
 
 -- a person by the family name
 person : List ℕ → Named
@@ -82,7 +106,7 @@ authors cs state =
 
 -- a cite of two authors, of whom one is shown
 authored : Citation → ℕ → List ℕ → Candidate
-authored c entry cs = record { entry = entry; has_date = true; style = adding_suffix c; printed = authors cs; met_disambiguate = false; names = Some (two_shown 1) }
+authored c entry cs = record { entry = entry; number = entry; has_date = true; style = adding_suffix c; printed = authors cs; met_disambiguate = false; names = Some (two_shown 1) }
 
 more_names : (c : Citation) → (disambiguated true 2 (authored c 0 (codes "Lee") ∷ authored c 1 (codes "Poe") ∷ [])).states ≡ by_names (two_shown 2) ∷ by_names (two_shown 2) ∷ []
 unfolding authored authors shown_of person two_shown adding_suffix
@@ -133,7 +157,7 @@ dated_authors family cs state =
 
 -- a cite of two authors, of whom one is shown, with a date
 dated_cite : Citation → ℕ → List ℕ → List ℕ → Candidate
-dated_cite c entry family cs = record { entry = entry; has_date = true; style = adding_suffix c; printed = dated_authors family cs; met_disambiguate = false; names = Some (two_shown 1) }
+dated_cite c entry family cs = record { entry = entry; number = entry; has_date = true; style = adding_suffix c; printed = dated_authors family cs; met_disambiguate = false; names = Some (two_shown 1) }
 
 -- names of two cites in the first round, of the third in the second, year suffixes of all in the third
 third_round :
@@ -142,3 +166,12 @@ third_round :
     ≡ by_suffix 0 ∷ by_suffix 1 ∷ by_suffix 2 ∷ []
 unfolding dated_cite dated_authors printed_first dated person two_shown adding_suffix
 third_round c = refl
+
+-- a style that leaves out the first of alike cites, as before
+first_left_out : (o : Origin) (s : Printed) (ss : List Printed) → states_by_choose o (record s { first_chooses_too = false } ∷ ss) ≡ flat_map (choose_beside o s.entry) ss
+first_left_out o s ss = refl
+
+-- styles that give year suffixes in the order of first cites, as before
+by_first_cites : (has_dates : Bool) (o : Origin) (ss : List Printed) → list_any (λ s. s.suffixes_by_number) ss ≡ false
+    → states_by_suffixes has_dates o ss ≡ cond (has_dates && list_any (λ s. s.adds_suffix) ss) (suffixes_for o (entries_of ss)) []
+by_first_cites has_dates o ss none = ap (λ b. cond (has_dates && list_any (λ s. s.adds_suffix) ss) (suffixes_for o (entries_of (cond b (sorted by_number ss) ss))) []) none

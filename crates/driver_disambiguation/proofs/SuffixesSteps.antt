@@ -1,19 +1,29 @@
 -- Entries of a class, and their year suffixes.
 use Rattle.std.proofs.Common.{arith, ◌≡◌, ℕ, suc, ◌+◌, ◌<◌, ◌≤◌, Bool, true, false, cond, ◌||◌, List, [], ◌∷◌, ◌++◌, map, length, take, get_or, refl, sym, ap, ◌∙◌}
 use Rattle.std.specs.Prelude.{nat_eq, nat_le, Ok, Err}
+use Rattle.std.specs.Borrow.{Bor}
 use Rattle.std.specs.List.{list_any, enumerate_from}
+use Rattle.std.specs.Ordering.{nat_cmp}
+use Rattle.std.specs.declared.cmp.Ordering.{Ordering}
 use Rattle.std.proofs.lemmas.Cmp.{nat_eq_equiv}
 use Rattle.std.proofs.lemmas.Bool.{leb-false, leb-true}
 use Rattle.std.proofs.lemmas.List.{map-append, take_more, take_all, length-take-le}
 use Rattle.std.proofs.lemmas.List.Folds.{list_any-append}
+use Rattle.sorting.specs.Keyed.{by_key, value_of}
+use Rattle.sorting.specs.Sorted.{sorted}
+use Rattle.sorting.specs.declared.keyed.Keyed.{Keyed}
+use Rattle.sorting.proofs.MappedSorts.{map-sorted}
 use Rattle.rendering_context.specs.Cites.{by_suffix}
 use Rattle.driver_requests.specs.CitedEntries.{once}
 use Rattle.driver_requests.specs.Errors.{overflow}
 use Rattle.driver_requests.specs.Suffixes.{Origin}
 use Rattle.driver_requests.proofs.Once.{once_more}
 use Rattle.driver_names.specs.Prints.{GivenState}
+use Rattle.driver_names.specs.Views.{class_view, printed_view}
+use Rattle.driver_names.specs.declared.printed.Printed.{Printed}
+use Rattle.driver_disambiguation.specs.Gathered.{keyed}
 use Rattle.driver_disambiguation.specs.States.{suffixes_overflow}
-use Rattle.driver_disambiguation.specs.Rounds.{suffixes_for}
+use Rattle.driver_disambiguation.specs.Rounds.{by_number, suffixes_for}
 use Rattle.driver_disambiguation.specs.Views.{unless_beyond}
 
 -- one number more, viewed twice
@@ -64,6 +74,25 @@ pub view_step_at : {X Y : Type 0} (g : X → Y) (h : Y → ℕ) (xs : List X) (i
     → new ≡ list_any (nat_eq e) (map h (map g (take (i + 1) xs)))
 view_step_at g h xs i x e old new low before is_x after =
     view_step g h xs i x e old new low before (after ∙ ap (λ y. cond (nat_eq (h (g y)) e) true old) is_x)
+
+values_back : (xs : List (Bor Printed)) → map value_of (map keyed xs) ≡ xs
+values_back [] = refl
+values_back (x ∷ xs) = ap (λ ys. x ∷ ys) (values_back xs)
+
+-- how two cites compare by the numbers of their entries
+abbrev by_own_number : Bor Printed → Bor Printed → Ordering
+by_own_number s t = nat_cmp s.now.cite.number t.now.cite.number
+
+-- cites that are sorted by keys are in the order of their numbers
+pub sorted_back : (xs out : List (Bor Printed)) (ks : List (Keyed ℕ (Bor Printed))) → ks ≡ map keyed xs → out ≡ map value_of (sorted (by_key nat_cmp) ks)
+    → class_view out ≡ sorted by_number (class_view xs)
+sorted_back xs out ks are is =
+    ap class_view
+    (is
+    ∙ ap (λ ys. map value_of (sorted (by_key nat_cmp) ys)) are
+    ∙ ap (map value_of) (sym (map-sorted keyed by_own_number (by_key nat_cmp) (λ a b. refl) xs))
+    ∙ values_back (sorted by_own_number xs))
+    ∙ map-sorted (λ s. printed_view s.now) by_own_number by_number (λ a b. refl) xs
 
 -- year suffixes for an entry by its index
 abbrev pub suffix_to : Origin → ℕ × ℕ → GivenState

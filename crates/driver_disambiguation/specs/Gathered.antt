@@ -1,14 +1,17 @@
 -- What a round has given up to a class.
 use Rattle.std.specs.Prelude.{◌≡◌, ℕ, Bool, false, List, [], fold, if◌then◌else◌}
+use Rattle.std.specs.Borrow.{Bor}
 use Rattle.std.specs.BTreeSet.{BTreeSet, contains}
 use Rattle.std.specs.List.{list_any, enumerate_from}
 use Rattle.std.specs.Ordering.{nat_cmp}
+use Rattle.sorting.specs.declared.keyed.Keyed.{Keyed}
 use Rattle.rendering_context.specs.Cites.{may_change}
 use Rattle.driver_requests.specs.Suffixes.{Origin}
 use Rattle.driver_names.specs.Prints.{Printed, GivenState}
+use Rattle.driver_names.specs.declared.printed.Printed as code
 use Rattle.driver_disambiguation.specs.Classes.{entries_of}
 use Rattle.driver_disambiguation.specs.States.{is_given_to, suffixes_overflow}
-use Rattle.driver_disambiguation.specs.Rounds.{given_by, states_by_choose, suffixes_for}
+use Rattle.driver_disambiguation.specs.Rounds.{given_by, in_suffix_order, states_by_choose, suffixes_for}
 
 -- a set has the entries to which something was given, and no others
 abbrev pub AreEntriesOf : BTreeSet ℕ → List GivenState → Type 0
@@ -33,4 +36,8 @@ branches_for o met = if list_any (λ s. may_change s.state) met then states_by_c
 
 -- year suffixes for the entries of cites, where they are wanted
 abbrev pub suffixes_where : Bool → Origin → List Printed → List GivenState
-suffixes_where wanted o ss = if wanted then suffixes_for o (entries_of ss) else []
+suffixes_where wanted o ss = if wanted then suffixes_for o (entries_of (in_suffix_order ss)) else []
+
+-- a cite under the number of its entry
+abbrev pub keyed : Bor code.Printed → Keyed ℕ (Bor code.Printed)
+keyed s = record { key = s.now.cite.number; value = s }

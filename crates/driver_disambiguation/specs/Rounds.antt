@@ -1,6 +1,9 @@
 -- Rounds in which states are given, class by class.
 use Rattle.std.specs.Prelude.{ℕ, Bool, ◌==◌, ◌&&◌, List, [], ◌∷◌, ◌++◌, map, filter, fold, if◌then◌else◌}
 use Rattle.std.specs.List.{list_any, flat_map, enumerate_from, range_with_len}
+use Rattle.std.specs.Ordering.{nat_cmp}
+use Rattle.std.specs.declared.cmp.Ordering.{Ordering}
+use Rattle.sorting.specs.Sorted.{sorted}
 use Rattle.rendering_context.specs.Cites.{by_choose, by_suffix, may_change}
 use Rattle.driver_requests.specs.Suffixes.{Origin}
 use Rattle.driver_disambiguation.specs.States.{States, undisambiguated_states, states_after, is_given_to}
@@ -12,17 +15,21 @@ use Rattle.driver_names.specs.Names.{states_by_names}
 abbrev pub is_given_to_class : List GivenState → List Printed → Bool
 is_given_to_class gs ss = list_any (λ s. list_any (is_given_to s.entry) gs) ss
 
--- a cite takes the branch for alike cites, unless it is of the first entry
-abbrev pub choose_beside : Origin → ℕ → Printed → List GivenState
-choose_beside o first t = if t.entry == first then [] else given_to t.entry by_choose o ∷ []
+-- a cite takes the branch for alike cites
+abbrev pub chosen : Origin → Printed → GivenState
+chosen o t = given_to t.entry by_choose o
 
--- the branch for alike cites, to all of these cites but those of the entry of the first
+-- it does, unless it is of the first entry
+abbrev pub choose_beside : Origin → ℕ → Printed → List GivenState
+choose_beside o first t = if t.entry == first then [] else chosen o t ∷ []
+
+-- the branch for alike cites, to all of these cites; where the style of the first does not say so, not to those of its entry
 abbrev pub states_by_choose : Origin → List Printed → List GivenState
 states_by_choose o [] = []
-states_by_choose o (s ∷ ss) = flat_map (choose_beside o s.entry) ss
+states_by_choose o (s ∷ ss) = if s.first_chooses_too then map (chosen o) (s ∷ ss) else flat_map (choose_beside o s.entry) ss
 
 -- Where for some cite of a class the test `disambiguate` was evaluated, and the cite may still change: all cites for which it was take the
--- branch, but those of the first such entry.
+-- branch, but for those of the first such entry where its style leaves them out.
 abbrev pub states_by_branches : Origin → List Printed → List GivenState
 states_by_branches o ss =
     let met = filter (λ s. s.met_disambiguate) ss in
@@ -32,10 +39,18 @@ states_by_branches o ss =
 abbrev pub suffixes_for : Origin → List ℕ → List GivenState
 suffixes_for o entries = map (λ p. given_to p.1 (by_suffix p.0) o) (enumerate_from 0 entries)
 
+-- how two cites compare by the numbers of their entries
+abbrev pub by_number : Printed → Printed → Ordering
+by_number s t = nat_cmp s.number t.number
+
+-- cites in the order in which year suffixes are given: as they stand, or by their numbers where a style says so
+abbrev pub in_suffix_order : List Printed → List Printed
+in_suffix_order ss = if list_any (λ s. s.suffixes_by_number) ss then sorted by_number ss else ss
+
 -- What year suffixes give to the entries of a class, where some cite of the document prints a date and a style of the class adds year
--- suffixes: in the order of their first cites there.
+-- suffixes: in the order of their first cites there, or of their numbers.
 abbrev pub states_by_suffixes : Bool → Origin → List Printed → List GivenState
-states_by_suffixes has_dates o ss = if has_dates && list_any (λ s. s.adds_suffix) ss then suffixes_for o (entries_of ss) else []
+states_by_suffixes has_dates o ss = if has_dates && list_any (λ s. s.adds_suffix) ss then suffixes_for o (entries_of (in_suffix_order ss)) else []
 
 -- what was given in the round, and more where none of the entries of a class was given anything yet
 abbrev pub unless_given : List Printed → List GivenState → List GivenState → List GivenState

@@ -1,13 +1,13 @@
 //! Other branches of a style for the cites of a class.
 
-ghost use Rattle.std.specs.Prelude.{◌≡◌, ◌++◌, filter, IfOk, OnOk};
+ghost use Rattle.std.specs.Prelude.{◌≡◌, ◌++◌, filter, map, IfOk, OnOk};
 ghost use Rattle.std.specs.List.{flat_map, list_any};
 ghost use Rattle.rendering_context.specs.Cites.{may_change};
 ghost use Rattle.driver_disambiguation.specs.Rounds as rounds;
-ghost use Rattle.driver_disambiguation.specs.Rounds.{states_by_choose, choose_beside};
+ghost use Rattle.driver_disambiguation.specs.Rounds.{chosen, states_by_choose, choose_beside};
 ghost use Rattle.driver_disambiguation.specs.Gathered.{branches_for};
 ghost use Rattle.driver_requests.specs.SuffixViews.{origin_view};
-ghost use Rattle.driver_names.specs.Views.{class_view, given_states_view, printed_view};
+ghost use Rattle.driver_names.specs.Views.{class_view, given_states_view, given_view, printed_view};
 
 use driver_names::{GivenState, Printed, push_where};
 use driver_requests::Origin;
@@ -65,7 +65,7 @@ fn asked<'a>(alloc: Global, class: &[&'a Printed]) -> Result<Vec<&'a Printed>, A
     Ok(asked)
 }
 
-/// Other branches for cites, but for those of the first one's entry.
+/// Other branches for cites, but for those of the first one's entry where its style leaves these out.
 fn states_by_choose(
     alloc: Global,
     origin: Origin,
@@ -75,8 +75,41 @@ fn states_by_choose(
         ≡ states_by_choose (origin_view origin) (class_view asked.now)) }
 {
     match asked.split_first() {
-        Some((first, others)) => choose_beside(alloc, origin, first.cite.entry, others),
+        Some((first, others)) => {
+            if first.cite.first_chooses_too {
+                choose_all(alloc, origin, asked)
+            } else {
+                choose_beside(alloc, origin, first.cite.entry, others)
+            }
+        }
         None => Ok(Vec::new(alloc)),
+    }
+}
+
+/// Other branches for all of some cites.
+fn choose_all(
+    alloc: Global,
+    origin: Origin,
+    cites: &[&Printed],
+) -> Result<Vec<GivenState>, AllocError>
+    ensures { IfOk result (λ g. given_states_view g.items
+        ≡ map (chosen (origin_view origin)) (class_view cites.now)) }
+{
+    let mut given = Vec::with_capacity(alloc, cites.len())?;
+    for cite in cites {
+        given.push(chosen(origin, cite))?;
+    }
+    Ok(given)
+}
+
+/// Other branches for a cite.
+fn chosen(origin: Origin, cite: &Printed) -> GivenState
+    ensures { given_view result ≡ chosen (origin_view origin) (printed_view cite.now) }
+{
+    GivenState {
+        entry: cite.cite.entry,
+        state: DisambiguateState::Choose,
+        origin,
     }
 }
 
@@ -108,11 +141,7 @@ fn push_chosen(
         ++ choose_beside (origin_view origin) first (printed_view other.now)) }
 {
     if other.cite.entry != first {
-        given.push(GivenState {
-            entry: other.cite.entry,
-            state: DisambiguateState::Choose,
-            origin,
-        })?;
+        given.push(chosen(origin, other))?;
     }
     Ok(())
 }

@@ -1,14 +1,16 @@
 //! Year suffixes for the entries of a class.
 
-ghost use Rattle.std.specs.Prelude.{◌≡◌, ℕ, true, ◌==◌, [], ◌∷◌, ◌++◌, if◌then◌else◌, IfOk, OnOk};
+ghost use Rattle.std.specs.Prelude.{◌≡◌, ℕ, true, ◌==◌, [], ◌∷◌, ◌++◌, map, if◌then◌else◌, IfOk, OnOk};
 ghost use Rattle.std.specs.BTreeSet.{contains};
 ghost use Rattle.std.specs.List.{list_any};
 ghost use Rattle.std.specs.Ordering.{nat_cmp};
 ghost use Rattle.laws.specs.Results.{Gives};
 ghost use Rattle.driver_requests.specs.Errors.{overflow_of};
 ghost use Rattle.driver_disambiguation.specs.Classes.{entries_of};
-ghost use Rattle.driver_disambiguation.specs.Gathered.{suffixes_where};
+ghost use Rattle.driver_disambiguation.specs.Gathered.{keyed, suffixes_where};
 ghost use Rattle.driver_disambiguation.specs.Rounds as rounds;
+ghost use Rattle.driver_disambiguation.specs.Rounds.{in_suffix_order};
+ghost use Rattle.sorting.specs.Sorted.{sorted};
 ghost use Rattle.driver_requests.specs.SuffixViews.{origin_view};
 ghost use Rattle.driver_names.specs.Views.{class_view, given_states_view};
 ghost use Rattle.driver_disambiguation.specs.Views.{unless_beyond};
@@ -17,6 +19,7 @@ use crate::entry_sets::insert_entry;
 use driver_names::{GivenState, Printed};
 use driver_requests::{DriverError, Origin};
 use rendering_context::DisambiguateState;
+use sorting::{Keyed, sorted_by_keys};
 use std::alloc::{AllocError, Global};
 use std::collections::BTreeSet;
 
@@ -47,8 +50,61 @@ fn suffixes_where(
     if !is_wanted {
         return Ok(Vec::new(alloc));
     }
-    let entries = entries(alloc, class)?;
+    let entries = ordered_entries(alloc, class)?;
     suffixes_for(alloc, origin, entries.as_slice())
+}
+
+/// The entries of cites, each once, in the order in which year suffixes are given.
+fn ordered_entries(alloc: Global, class: &[&Printed]) -> Result<Vec<usize>, AllocError>
+    ensures { IfOk result (λ v. v.items ≡ entries_of (in_suffix_order (class_view class.now))) }
+{
+    if some_goes_by_number(class) {
+        entries_by_number(alloc, class)
+    } else {
+        entries(alloc, class)
+    }
+}
+
+/// The entries of cites, each once, in the order of their numbers.
+fn entries_by_number(alloc: Global, class: &[&Printed]) -> Result<Vec<usize>, AllocError>
+    ensures { IfOk result (λ v. v.items
+        ≡ entries_of (sorted rounds.by_number (class_view class.now))) }
+{
+    let ordered = by_number(alloc, class)?;
+    entries(alloc, ordered.as_slice())
+}
+
+/// Whether the style of some cite gives year suffixes by the numbers of entries.
+fn some_goes_by_number(cites: &[&Printed]) -> bool
+    ensures { result ≡ list_any (λ s. s.suffixes_by_number) (class_view cites.now) }
+{
+    cites.iter().any(|cite| cite.cite.suffixes_by_number)
+}
+
+/// Cites in the order of the numbers of their entries.
+fn by_number<'a>(alloc: Global, cites: &[&'a Printed]) -> Result<Vec<&'a Printed>, AllocError>
+    ensures { IfOk result (λ v. class_view v.items
+        ≡ sorted rounds.by_number (class_view cites.now)) }
+{
+    let keyed = keyed(alloc, cites)?;
+    sorted_by_keys(alloc, keyed)
+}
+
+/// Cites under the numbers of their entries.
+fn keyed<'a>(
+    alloc: Global,
+    cites: &[&'a Printed],
+) -> Result<Vec<Keyed<usize, &'a Printed>>, AllocError>
+    ensures { IfOk result (λ v. v.items ≡ map keyed cites.now) }
+{
+    let mut keyed = Vec::with_capacity(alloc, cites.len())?;
+    for cite in cites {
+        keyed.push(Keyed {
+            key: cite.cite.number,
+            value: *cite,
+        })?;
+    }
+    Ok(keyed)
 }
 
 /// Whether the style of some cite adds year suffixes.

@@ -4,7 +4,7 @@ use Rattle.std.specs.List.{AllByRecursion, enumerate_from}
 use Rattle.rendering_context.specs.Contexts.{StyleContext}
 use Rattle.rendering_entries.specs.Answers.{Answers}
 use Rattle.rendering_nodes.specs.Named.{AreAlike, Named}
-use Rattle.rendering_nodes.proofs.AnswersAlike.{first_alike, others_alike}
+use Rattle.rendering_nodes.proofs.AnswersAlike.{first_named, others_named}
 use Rattle.rendering.specs.Alike.{style_named}
 use Rattle.driver_requests.specs.Cites.{Cite, cite_at, cites_after, entry_of}
 use Rattle.driver_requests.specs.Requests.{Item, Request}
@@ -40,13 +40,13 @@ module _ {P : Type 0} (a b : ℕ → Answers) where
   own_alike : (n : Named) (earlier rs : List (Request P)) → ((entry : ℕ) → AreAlike (requests_named n rs) (a entry) (b entry)) → AllByRecursion (AllByRecursion (λ (c : Cite P). OfCite c.context c)) (cites_after earlier (map (request_with a) rs))
   own_alike n earlier [] h = tt
   own_alike n earlier (r ∷ rs) h = (
-    cites_in (λ (c : Cite P). OfCite c.context c) earlier r (λ p. first_alike (style_named r.context.style) (requests_named n rs) (a p.1.entry.index) (b p.1.entry.index) (h p.1.entry.index)),
-    own_alike n (earlier ++ request_with a r ∷ []) rs (λ entry. others_alike (style_named r.context.style) (requests_named n rs) (a entry) (b entry) (h entry)),
+    cites_in (λ (c : Cite P). OfCite c.context c) earlier r (λ p. first_named (style_named r.context.style) (requests_named n rs) (a p.1.entry.index) (b p.1.entry.index) (h p.1.entry.index)),
+    own_alike n (earlier ++ request_with a r ∷ []) rs (λ entry. others_named (style_named r.context.style) (requests_named n rs) (a entry) (b entry) (h entry)),
   )
 
   last_named : (x : StyleContext) (rs : List (Request P)) (entry : ℕ) → AreAlike (requests_named (style_named x.style) rs) (a entry) (b entry) → AreAlike (style_named x.style) (a entry) (b entry)
   last_named x [] entry h = h
-  last_named x (r ∷ rs) entry h = last_named x rs entry (others_alike (style_named r.context.style) (requests_named (style_named x.style) rs) (a entry) (b entry) h)
+  last_named x (r ∷ rs) entry h = last_named x rs entry (others_named (style_named r.context.style) (requests_named (style_named x.style) rs) (a entry) (b entry) h)
 
   listed_alike : (x : StyleContext) (earlier rs : List (Request P)) → ((entry : ℕ) → AreAlike (style_named x.style) (a entry) (b entry)) → AllByRecursion (AllByRecursion (OfCite x)) (cites_after earlier (map (request_with a) rs))
   listed_alike x earlier [] h = tt

@@ -10,7 +10,7 @@ use Rattle.driver_blocks.specs.Runs.{Arranged}
 use Rattle.driver_rounds.specs.Documents.{Document, number_of}
 use Rattle.driver_laws.specs.Laws.{EntriesHaveOneNumberAndState, entry_final}
 use Rattle.driver.specs.Stages.{finals_of, Final, final, finals_in, first_print_of}
-use Rattle.driver_rounds.specs.FirstPrints.{FirstPrint, disambiguated_in, entry_of_first, first_print, first_prints_in, numbered_after}
+use Rattle.driver_rounds.specs.FirstPrints.{FirstPrint, disambiguated_in, entry_of_first, first_print, first_prints_in, named_after}
 use Rattle.driver.proofs.FinalPrintsOf.{finals_all, prints_all}
 use Rattle.driver.proofs.Members.{every_all, flat_all}
 
@@ -23,7 +23,7 @@ module _ {P : Type 0} (same : P → P → Bool) (d : Document P) (t : Disambigua
   abbrev pub IsInState : Final P → Type 0
   IsInState f = (f.properties.citation_number ≡ number_of d (entry_final f)) × (f.properties.disambiguation ≡ state_of t.states (entry_final f))
 
-  first_one : (p : Option (Cite P) × Cite P) → Unit {0} → IsNumbered (first_print (numbered_after same d p))
+  first_one : (p : Option (Cite P) × Cite P) → Unit {0} → IsNumbered (first_print (named_after same d p))
   first_one (last, c) h = refl
 
   first_all : AllByRecursion (AllByRecursion IsNumbered) (first_prints_in same d)

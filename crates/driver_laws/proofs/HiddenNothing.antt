@@ -3,6 +3,7 @@ use Rattle.std.proofs.Common.{◌≡◌, ℕ, Bool, true, false, true≢false, c
 use Rattle.std.specs.List.{AllByRecursion, enumerate_from, flat_map, last_or, list_any, zip}
 use Rattle.std.proofs.lemmas.List.Elements.{All-contains, All-from_recursion}
 use Rattle.rendering_tree.specs.Trees.{nothing}
+use Rattle.rendering.specs.Words.{joining_quotes}
 use Rattle.driver_requests.specs.Cites.{Cite, cite_at, cites_after}
 use Rattle.driver_requests.specs.Positions.{with_previous}
 use Rattle.driver_requests.specs.Requests.{Item, Request}
@@ -14,7 +15,7 @@ use Rattle.driver_rounds.specs.Documents.{Document}
 use Rattle.driver.specs.Finish.{citation_tree, shown, shown_cite}
 use Rattle.driver_laws.specs.Laws.{HiddenItemsPrintNothing, is_all_hidden}
 use Rattle.driver.specs.Stages.{finals_by_request, Final, arranged_for, final, gathered_by, has_purpose}
-use Rattle.driver_rounds.specs.FirstPrints.{FirstPrint, disambiguated_in, first_print, first_prints_in, numbered_after}
+use Rattle.driver_rounds.specs.FirstPrints.{FirstPrint, disambiguated_in, first_print, first_prints_in, named_after}
 use Rattle.driver.proofs.ArrangedCites.{IsOne, arranged_all}
 use Rattle.driver.proofs.Members.{enumerate_all, map_all, weaker_all, zip_all}
 
@@ -55,17 +56,17 @@ module _ {P : Type 0} (same : P → P → Bool) (d : Document P) (t : Disambigua
       hidden_at : (p : ℕ × Item P) → p.1.is_hidden ≡ true → (cite_at earlier r p).item.is_hidden ≡ true
       hidden_at (index, i) g = g
 
-  print_hidden : (p : Option (Cite P) × Cite P) → p.1.item.is_hidden ≡ true → IsHidden (first_print (numbered_after same d p))
+  print_hidden : (p : Option (Cite P) × Cite P) → p.1.item.is_hidden ≡ true → IsHidden (first_print (named_after same d p))
   print_hidden (last, c) h = h
 
   prints_hidden : (last : Option (Cite P)) (cs : List (Cite P)) → AllByRecursion (λ (c : Cite P). c.item.is_hidden ≡ true) cs
-      → AllByRecursion IsHidden (map (λ p. first_print (numbered_after same d p)) (zip (last ∷ map (λ c. Some c) cs) cs))
+      → AllByRecursion IsHidden (map (λ p. first_print (named_after same d p)) (zip (last ∷ map (λ c. Some c) cs) cs))
   prints_hidden last cs h =
       let pairs = zip (last ∷ map (λ c. Some c) cs) cs in
-      map_all IsHidden (λ p. first_print (numbered_after same d p)) pairs
-      (weaker_all (λ (p : Option (Cite P) × Cite P). p.1.item.is_hidden ≡ true) (λ p. IsHidden (first_print (numbered_after same d p))) print_hidden pairs (zip_all (λ (c : Cite P). c.item.is_hidden ≡ true) (last ∷ map (λ c. Some c) cs) cs h))
+      map_all IsHidden (λ p. first_print (named_after same d p)) pairs
+      (weaker_all (λ (p : Option (Cite P) × Cite P). p.1.item.is_hidden ≡ true) (λ p. IsHidden (first_print (named_after same d p))) print_hidden pairs (zip_all (λ (c : Cite P). c.item.is_hidden ≡ true) (last ∷ map (λ c. Some c) cs) cs h))
 
-  first_hidden : (earlier : List (Request P)) (last : Option (Cite P)) (rs : List (Request P)) → AllByRecursion HidesAll (zip rs (map (map (λ p. first_print (numbered_after same d p))) (with_previous last (cites_after earlier rs))))
+  first_hidden : (earlier : List (Request P)) (last : Option (Cite P)) (rs : List (Request P)) → AllByRecursion HidesAll (zip rs (map (map (λ p. first_print (named_after same d p))) (with_previous last (cites_after earlier rs))))
   first_hidden earlier last [] = tt
   first_hidden earlier last (r ∷ rs) =
       let cs = map (cite_at earlier r) (enumerate_from 0 r.items) in
@@ -97,7 +98,7 @@ module _ {P : Type 0} (same : P → P → Bool) (d : Document P) (t : Disambigua
       let unshown : AllByRecursion (λ (f : Final P). f.arranged.is_shown ≡ false) (map (final same t) pairs) =
       map_all (λ (f : Final P). f.arranged.is_shown ≡ false) (final same t) pairs
       (weaker_all (λ (p : Option (Arranged (FirstPrint P)) × Arranged (FirstPrint P)). IsUnshown p.1) (λ p. (final same t p).arranged.is_shown ≡ false) final_hidden pairs (zip_all IsUnshown (last ∷ map (λ a. Some a) xs) xs h)) in
-      ap (citation_of r.context.style.citation.layout (has_purpose r)) (none_shown (map (final same t) pairs) unshown)
+      ap (citation_of (joining_quotes r.context) r.context.style.citation.layout (has_purpose r)) (none_shown (map (final same t) pairs) unshown)
 
   finals_hidden : (last : Option (Arranged (FirstPrint P))) (rs : List (Request P)) (bss : List (List (FirstPrint P))) → AllByRecursion HidesAll (zip rs bss)
       → AllByRecursion PrintsNothing (zip rs (map (map (final same t)) (with_previous last (map (arranged_for t) (zip rs bss)))))

@@ -1,12 +1,14 @@
 -- Year suffixes are final, and no two entries have the same of one class in one round.
 use Rattle.std.proofs.Common.{arith, ◌≡◌, ℕ, zero, suc, ◌+◌, ◌<◌, Bool, true, false, true≢false, not-suc-le-zero, cond, not, ◌&&◌, nat_eq, eqb-true, List, [], ◌∷◌, ◌++◌, append-nil, length, map, get_or, filter, find, fold, take, is_some, Contains, inl, inr, refl, sym, ap, subst, ◌∙◌, Option, Some, None}
 use Rattle.std.specs.Prelude.{◌==◌, count_by}
-use Rattle.std.specs.List.{AllByRecursion, enumerate_from, list_any, range_with_len, reduce, slice_get}
+use Rattle.std.specs.List.{AllByRecursion, enumerate_from, flat_map, list_any, range_with_len, reduce, slice_get}
 use Rattle.std.specs.Option.{option_and_then, option_map, option_map_or, unwrap_or}
 use Rattle.std.proofs.lemmas.List.{get_or-map}
-use Rattle.std.proofs.lemmas.List.Elements.{All-contains, All-from_recursion, Contains-append_cases, Contains-append_right}
+use Rattle.std.proofs.lemmas.List.Elements.{All-contains, All-from_recursion, Contains-append_cases, Contains-append_right, recursion_from_All}
 use Rattle.std.proofs.lemmas.List.FromFn.{get_or-enumerate_from, length-enumerate_from}
 use Rattle.std.proofs.lemmas.List.Sums.{fold-append}
+use Rattle.sorting.specs.Sorted.{sorted}
+use Rattle.sorting.proofs.Sorts.{sorted_all}
 use Rattle.rendering_people.specs.Properties.{Properties, prints_more}
 use Rattle.rendering_context.specs.Cites.{DisambiguateState, undisambiguated, by_names, by_choose, by_suffix, allows_suffix, greater_state, may_change}
 use Rattle.driver_requests.specs.CitedEntries.{once}
@@ -15,7 +17,7 @@ use Rattle.driver_names.specs.Prints.{GivenState, given_to, Candidate, Printed, 
 use Rattle.driver_disambiguation.specs.States.{States, giver_of, is_given_to, is_suffix, joined_for, state_of, states_after, suffix_given, suffix_index}
 use Rattle.driver_disambiguation.specs.Classes.{classes, entries_of, is_alike, is_mixed, part_at, parts, printed_under}
 use Rattle.driver_names.specs.Names.{Member, all_shown_up_to, distinguished, distinguished_at, distinguished_by, is_newly_distinguished, states_by_names, states_by_names_of, member, members, names_may_change, own_names, people_compared, raises, rule_for, showing_up_to, with_raised}
-use Rattle.driver_disambiguation.specs.Rounds.{Disambiguation, after_giving, after_round, after_rounds, before_rounds, choose_beside, disambiguated, given_by, given_with_class, is_given_to_class, suffixes_for, states_by_branches, states_by_choose, states_by_suffixes, round_given, unless_given}
+use Rattle.driver_disambiguation.specs.Rounds.{Disambiguation, after_giving, after_round, after_rounds, before_rounds, by_number, choose_beside, chosen, disambiguated, given_by, given_with_class, in_suffix_order, is_given_to_class, suffixes_for, states_by_branches, states_by_choose, states_by_suffixes, round_given, unless_given}
 use Rattle.driver_laws.specs.Laws.{YearSuffixesAreDistinct, YearSuffixesAreFinal, RoundsThatGiveNothingChangeNothing}
 use Rattle.driver.proofs.Members.{append_all, either_all, enumerate_all, every_all, filter_all, flat_all, map_all, weaker_all}
 
@@ -91,8 +93,10 @@ module _ (E : ℕ → Type 0) where
   choose_all : (o : Origin) (ss : List Printed) → AllByRecursion OfPrinted ss → AllByRecursion (IsPlain o) (states_by_choose o ss)
   choose_all o [] h = tt
   choose_all o (s ∷ ss) h =
-      flat_all (IsPlain o) (choose_beside o s.entry) ss
-      (weaker_all OfPrinted (λ t. AllByRecursion (IsPlain o) (choose_beside o s.entry t)) (λ t g. either_all (IsPlain o) (t.entry == s.entry) [] (given_to t.entry by_choose o ∷ []) tt ((g, refl, refl), tt)) ss h.1)
+      either_all (IsPlain o) s.first_chooses_too (map (chosen o) (s ∷ ss)) (flat_map (choose_beside o s.entry) ss)
+      (map_all (IsPlain o) (chosen o) (s ∷ ss) (weaker_all OfPrinted (λ t. IsPlain o (chosen o t)) (λ t g. (g, refl, refl)) (s ∷ ss) h))
+      (flat_all (IsPlain o) (choose_beside o s.entry) ss
+      (weaker_all OfPrinted (λ t. AllByRecursion (IsPlain o) (choose_beside o s.entry t)) (λ t g. either_all (IsPlain o) (t.entry == s.entry) [] (given_to t.entry by_choose o ∷ []) tt ((g, refl, refl), tt)) ss h.1))
 
   branches_all : (o : Origin) (ss : List Printed) → AllByRecursion OfPrinted ss → AllByRecursion (IsPlain o) (states_by_branches o ss)
   branches_all o ss h =
@@ -115,9 +119,14 @@ module _ (E : ℕ → Type 0) where
   own_entries : (ss : List Printed) → AllByRecursion OfPrinted ss → AllByRecursion E (entries_of ss)
   own_entries ss h = once_all (map (λ (s : Printed). s.entry) ss) (map_all E (λ (s : Printed). s.entry) ss h)
 
+  ordered_all : (ss : List Printed) → AllByRecursion OfPrinted ss → AllByRecursion OfPrinted (in_suffix_order ss)
+  ordered_all ss h =
+      either_all OfPrinted (list_any (λ (s : Printed). s.suffixes_by_number) ss) (sorted by_number ss) ss (recursion_from_All OfPrinted (sorted by_number ss) (sorted_all OfPrinted by_number ss (All-from_recursion OfPrinted ss h))) h
+
   suffixes_all_own : (has_dates : Bool) (o : Origin) (ss : List Printed) → AllByRecursion OfPrinted ss → AllByRecursion (IsOwn o) (states_by_suffixes has_dates o ss)
   suffixes_all_own has_dates o ss h =
-      either_all (IsOwn o) (has_dates && list_any (λ (s : Printed). s.adds_suffix) ss) (suffixes_for o (entries_of ss)) [] (suffixes_own o (entries_of ss) (own_entries ss h)) tt
+      let es = entries_of (in_suffix_order ss) in
+      either_all (IsOwn o) (has_dates && list_any (λ (s : Printed). s.adds_suffix) ss) (suffixes_for o es) [] (suffixes_own o es (own_entries (in_suffix_order ss) (ordered_all ss h))) tt
 
   while_all : (Q : GivenState → Type 0) (ss : List Printed) (more gs : List GivenState) → AllByRecursion Q more → AllByRecursion Q gs → AllByRecursion Q (unless_given ss more gs)
   while_all Q ss more gs h k = either_all Q (is_given_to_class gs ss) gs (gs ++ more) k (append_all Q gs more k h)
@@ -302,7 +311,7 @@ module _ (adds_names : Bool) (round class : ℕ) (gs : List GivenState) (ss : Li
     class_unique : AllByRecursion (IsBefore round class) gs → AreUnique gs → AreUnique (given_by adds_names has_dates gs (class_at round class) ss)
     class_unique h u =
         while_unique ss with_suffixes without_suffixes (without_suffixes_unique_yet u)
-        (either_unique (has_dates && list_any (λ (s : Printed). s.adds_suffix) ss) (suffixes_for (class_at round class) (entries_of ss)) (suffixes_unique (class_at round class) (entries_of ss)))
+        (either_unique (has_dates && list_any (λ (s : Printed). s.adds_suffix) ss) (suffixes_for (class_at round class) (entries_of (in_suffix_order ss))) (suffixes_unique (class_at round class) (entries_of (in_suffix_order ss))))
         (suffixes_apart with_suffixes with_suffixes_own (free_suffixes h))
 
 -- a state is given in a round

@@ -1,5 +1,5 @@
 -- Entries that are wanted and not cited change nothing.
-use Rattle.std.proofs.Common.{◌≡◌, ℕ, Bool, true, false, cond, ◌||◌, nat_eq, List, [], ◌∷◌, ◌++◌, map, refl, sym, ap, ◌∙◌, Option, Some, None}
+use Rattle.std.proofs.Common.{◌≡◌, ℕ, Bool, true, false, cond, ◌||◌, nat_eq, List, [], ◌∷◌, ◌++◌, map, refl, sym, ap, ◌∙◌, Option, Some, None, length}
 use Rattle.std.specs.Prelude.{filter, filter_map, if◌then◌else◌, zip, Result, Ok, Err}
 use Rattle.std.specs.Option.{option_map}
 use Rattle.std.proofs.Math.Path.{fun_ext}
@@ -8,13 +8,13 @@ use Rattle.driver_requests.specs.CitedEntries.{once}
 use Rattle.driver_requests.specs.Cites.{Cite, Numbered, cites_of, entry_of}
 use Rattle.driver_requests.specs.Errors.{Overflow, overflow}
 use Rattle.driver_requests.specs.Order.{cited, is_index_in, number_in, numbers_overflow, ordered}
-use Rattle.driver_requests.specs.Positions.{counts_at_first, ibid_after, with_previous}
+use Rattle.driver_requests.specs.Positions.{counts_at_first, ibid_of, place_of, with_previous}
 use Rattle.driver_disambiguation.specs.States.{suffixes_overflow}
 use Rattle.driver_bibliography.specs.Items.{items_of}
 use Rattle.driver_rounds.specs.Documents.{Document, order_in}
 use Rattle.driver.specs.Finish.{Rendered, citation_in, finish, item_of_entry}
 use Rattle.driver_laws.specs.Laws.{UncitedEntriesChangeNothing}
-use Rattle.driver_rounds.specs.FirstPrints.{FirstPrint, disambiguated_in, first_print, flattened, numbered_after}
+use Rattle.driver_rounds.specs.FirstPrints.{FirstPrint, disambiguated_in, first_print, first_rule, first_states, flattened, numbered_after, with_first_names}
 use Rattle.driver.specs.Stages.{finals_in}
 
 module _ {P : Type 0} (same : P → P → Bool) (d : Document P) where
@@ -23,12 +23,19 @@ module _ {P : Type 0} (same : P → P → Bool) (d : Document P) where
   numbered_in_order order (last, c) = record {
     cite = c;
     number = number_in d.offset order (entry_of c);
-    ibid = ibid_after same counts_at_first (option_map (λ (l : Cite P). l.item) last) c.item;
+    ibid = ibid_of same counts_at_first (option_map place_of last) c;
+    first_names = [];
   }
 
-  -- the first prints of cites that are numbered in an order
+  -- the first prints of cites that are numbered so
+  abbrev prints_by : (Option (Cite P) × Cite P → Numbered P) → List (List (FirstPrint P))
+  prints_by number =
+      let pairs = with_previous None (cites_of d.requests) in
+      map (map (λ p. first_print (with_first_names (first_states (first_rule d.requests) (length (cited d.requests)) (flattened (map (map number) pairs))) (number p)))) pairs
+
+  -- those of cites that are numbered in an order
   abbrev prints_in_order : List ℕ → List (List (FirstPrint P))
-  prints_in_order order = map (map (λ p. first_print (numbered_in_order order p))) (with_previous None (cites_of d.requests))
+  prints_in_order order = prints_by (numbered_in_order order)
 
   -- what is given by first prints, where the entries have an order
   abbrev given_in_order : List ℕ → List (List (FirstPrint P)) → Result Rendered Overflow
@@ -48,12 +55,12 @@ module _ {P : Type 0} (same : P → P → Bool) (d : Document P) where
         citations = map citation_in (zip d.requests (finals_in same d bs (disambiguated_in d bs)));
       })
 
-  numbered_at : (p : Option (Cite P) × Cite P) → first_print (numbered_after same d p) ≡ first_print (numbered_in_order (order_in d) p)
+  numbered_at : (p : Option (Cite P) × Cite P) → numbered_after same d p ≡ numbered_in_order (order_in d) p
   numbered_at (last, c) = refl
 
   -- a document gives what is given in its order
   pub finish_in_order : finish same d ≡ given_in_order (order_in d) (prints_in_order (order_in d))
-  finish_in_order = ap (λ (f : Option (Cite P) × Cite P → FirstPrint P). given_in_order (order_in d) (map (map f) (with_previous None (cites_of d.requests)))) (fun_ext numbered_at)
+  finish_in_order = ap (λ (f : Option (Cite P) × Cite P → Numbered P). given_in_order (order_in d) (prints_by f)) (fun_ext numbered_at)
 
 filter_twice : (p : ℕ → Bool) (xs : List ℕ) → filter p (filter p xs) ≡ filter p xs
 filter_twice p [] = refl

@@ -45,7 +45,7 @@ pub last-is : (test : ℕ → Bool) → ((n : ℕ) → test (suc n) ≡ true →
 last-is test down zero n low = absurd (omega (arith, low))
 last-is test down (suc k) n low = last_step test k n down (test k) refl low (last-is test down k n)
 
-and_true : (b : Bool) → (b && true) ≡ b
+pub and_true : (b : Bool) → (b && true) ≡ b
 and_true true = refl
 and_true false = refl
 
@@ -139,6 +139,31 @@ pub any_count : {X : Type 0} (test : X → Bool) (xs : List X) → list_any test
 any_count test [] = refl
 any_count test (x ∷ xs) =
     any_step (test x) (list_any test xs) (count_by test xs) (any_count test xs) ∙ ap (nat_lt 0) (sym (sum_by-cons (λ y. cond (test y) 1 0) x xs))
+
+-- fewer pass a test than another number where some of the others do
+pub some_more : (own others : ℕ) (b : Bool) → nat_lt 0 others ≡ b → b ≡ nat_lt own (others + own)
+some_more own others true h = sym (lt-ltb own (others + own) (omega (arith, ltb-true 0 others h)))
+some_more own others false h = sym (le-ltb own (others + own) (omega (arith, ltb-false 0 others h)))
+
+apart_step : {X : Type 0} (w : X → ℕ) (b : Bool) (x : X) (all : ℕ) (left own : List X) → all ≡ sum_by w left + sum_by w own
+    → w x + all ≡ sum_by w (cond (not b) (x ∷ left) left) + sum_by w (cond b (x ∷ own) own)
+apart_step w true x all left own h =
+    let whole : w x + all ≡ sum_by w left + sum_by w (x ∷ own) = omega (arith, sum_by-cons w x own, h) in whole
+apart_step w false x all left own h =
+    let whole : w x + all ≡ sum_by w (x ∷ left) + sum_by w own = omega (arith, sum_by-cons w x left, h) in whole
+
+-- what members weigh is what those weigh that do not pass a test, and those that do
+pub weigh_apart : {X : Type 0} (t : X → Bool) (w : X → ℕ) (xs : List X) → sum_by w xs ≡ sum_by w (filter (λ x. not (t x)) xs) + sum_by w (filter t xs)
+weigh_apart t w [] =
+    let none : 0 ≡ 0 + 0 = omega arith in none
+weigh_apart t w (x ∷ xs) = sum_by-cons w x xs ∙ apart_step w (t x) x (sum_by w xs) (filter (λ y. not (t y)) xs) (filter t xs) (weigh_apart t w xs)
+
+-- some that do not pass one test pass another one where more pass it in all than of those that pass the first
+pub apart_some : {X : Type 0} (t test : X → Bool) (xs : List X) → list_any test (filter (λ x. not (t x)) xs) ≡ nat_lt (count_by test (filter t xs)) (count_by test xs)
+apart_some t test xs =
+    let others = count_by test (filter (λ x. not (t x)) xs) in
+    let own = count_by test (filter t xs) in
+    any_count test (filter (λ x. not (t x)) xs) ∙ some_more own others (nat_lt 0 others) refl ∙ ap (nat_lt own) (sym (weigh_apart t (λ y. cond (test y) 1 0) xs))
 
 lt_more : (m n : ℕ) (b : Bool) → nat_lt m n ≡ b → b ≡ nat_lt (m + 1) (n + 1)
 lt_more m n true h = sym (lt-ltb (m + 1) (n + 1) (omega (arith, ltb-true m n h)))

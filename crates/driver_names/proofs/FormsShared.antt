@@ -1,6 +1,6 @@
 -- The form of a cite that is newly disambiguated is the one that was found before.
 use Rattle.std.proofs.Common.{◌≡◌, ℕ, zero, suc, ◌+◌, ◌<◌, ◌≤◌, Bool, true, false, cond, not, ◌&&◌, nat_lt, List, [], ◌∷◌, ◌++◌, map, length, get_or, refl, sym, ap, subst, ◌∙◌, Option, Some, None, arith, lt-ltb, ltb-true, ltb-false}
-use Rattle.std.specs.Prelude.{◌==◌, filter, slice_get}
+use Rattle.std.specs.Prelude.{filter, slice_get}
 use Rattle.std.specs.List.{flat_map, list_any}
 use Rattle.std.specs.Option.{option_and_then, option_map}
 use Rattle.std.proofs.Math.Path.{fun_ext}
@@ -9,7 +9,7 @@ use Rattle.std.proofs.lemmas.List.{get_or-map, length-map}
 use Rattle.std.proofs.lemmas.Simd.{map-map}
 use Rattle.literature_values.specs.PersonViews.{Named}
 use Rattle.rendering_people.specs.Properties.{Properties, with_name}
-use Rattle.driver_names.specs.Names.{Member, agrees_on, all_shown_up_to, distinguished_at, distinguished_by, form_against, form_wanted, is_namesake, is_newly_distinguished, names_may_change, others, raises, rule_for, showing_up_to, with_raised}
+use Rattle.driver_names.specs.Names.{Member, agrees_on, all_shown_up_to, distinguished_at, distinguished_by, form_against, form_wanted, is_namesake, is_newly_distinguished, is_own, names_may_change, others, raises, rule_for, showing_up_to, with_raised}
 use Rattle.driver_names.specs.NamesViews.{distinction, form_raised}
 use Rattle.driver_names.specs.declared.names_members.Distinction.{Distinction}
 use Rattle.driver_names.specs.Namesakes.{AreFormsAt, SharePeopleBefore, form_after, forms_after, is_raised, may_be_distinguished, distinction_of}
@@ -129,14 +129,13 @@ people_step true m xs ys same = ap (λ ps. m.people ++ ps) same
 people_step false m xs ys same = same
 
 -- people of the other cites
-people_bare : (index : ℕ) (ms : List Member) → flat_map (λ o. o.people) (filter (λ (o : Member). not (o.index == index)) (map bare ms)) ≡ flat_map (λ o. o.people) (filter (λ (o : Member). not (o.index == index)) ms)
-people_bare index [] = refl
-people_bare index (m ∷ ms) =
-    people_step (not (m.index == index)) m (filter (λ (o : Member). not (o.index == index)) (map bare ms)) (filter (λ (o : Member). not (o.index == index)) ms) (people_bare index ms)
+people_bare : (m : Member) (ms : List Member) → flat_map (λ o. o.people) (others (map bare ms) (bare m)) ≡ flat_map (λ o. o.people) (others ms m)
+people_bare m [] = refl
+people_bare m (o ∷ os) = people_step (not (is_own m o)) o (others (map bare os) (bare m)) (others os m) (people_bare m os)
 
 form_bare : (ms : List Member) (most index : ℕ) (m : Member) → cond (is_raised most index m) (form_wanted (map bare ms) (bare m) index) None ≡ cond (is_raised most index m) (form_wanted ms m index) None
 form_bare ms most index m =
-    ap (λ (qs : List Named). cond (is_raised most index m) (option_and_then (λ p. form_against p (filter (is_namesake p) qs)) (slice_get m.people index)) None) (people_bare m.index ms)
+    ap (λ (qs : List Named). cond (is_raised most index m) (option_and_then (λ p. form_against p (filter (is_namesake p) qs)) (slice_get m.people index)) None) (people_bare m ms)
 
 forms_bare : (most : ℕ) (ms : List Member) → forms_after most (map bare ms) ≡ forms_after most ms
 forms_bare most ms =

@@ -8,3 +8,4 @@ pub mod NamesShared
 pub mod SharedStill
 pub mod NamesakesCounted
 pub mod FormsShared
+mod FirstSteps

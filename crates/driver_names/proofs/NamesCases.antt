@@ -1,10 +1,11 @@
 -- Cases of names that disambiguate cites, computed.
 use Rattle.std.proofs.Common.{◌≡◌, ℕ, true, false, List, [], ◌∷◌, codes, refl, Option, Some, None}
+use Rattle.std.specs.Prelude.{not, ◌==◌, filter}
 use Rattle.literature_values.specs.PersonViews.{Named}
 use Rattle.rendering_tree.specs.Metas as metas
 use Rattle.rendering_tree.specs.Trees.{Elem, nothing, before}
 use Rattle.rendering_context.specs.Cites.{DisambiguateState, undisambiguated, by_choose}
-use Rattle.driver_names.specs.Names.{Member, agrees_on, compared, is_namesake, is_newly_distinguished, people_in, raised_form, raises, ungiven, form_against}
+use Rattle.driver_names.specs.Names.{Member, agrees_on, compared, is_namesake, is_newly_distinguished, others, people_in, raised_form, raises, ungiven, form_against}
 use Rattle.rendering_taxonomy.specs.declared.name.DisambiguatedNameForm.TheVariants as forms
 use Rattle.rendering_taxonomy.specs.declared.style.DisambiguationRule.{DisambiguationRule}
 use Rattle.rendering_taxonomy.specs.declared.style.DisambiguationRule.TheVariants as rules
@@ -18,7 +19,21 @@ person family given = record { name = family; given_name = Some given; prefix = 
 member : ℕ → Option DisambiguationRule → DisambiguateState → List Named → Member
 member index rule state people = record {
   index = index;
-  cite = record { entry = index; has_date = false; rule = rule; adds_suffix = false; met_disambiguate = false; names = None; state = state; tree = nothing; text = [] };
+  cite = record {
+    entry = index;
+    number = index;
+    has_date = false;
+    rule = rule;
+    adds_suffix = false;
+    first_chooses_too = false;
+    same_entry_is_no_rival = false;
+    suffixes_by_number = false;
+    met_disambiguate = false;
+    names = None;
+    state = state;
+    tree = nothing;
+    text = [];
+  };
   people = people;
   names = None;
   is_distinguished = false;
@@ -97,3 +112,29 @@ raised_up = refl
 
 raises_alone : raises (Some rules.AllNames) ≡ false
 raises_alone = refl
+
+-- a cite whose style does not compare cites of one entry
+by_entry : Member → Member
+by_entry m = record m { cite = record m.cite { same_entry_is_no_rival = true } }
+
+-- another cite of the same entry does not keep it from being disambiguated
+against_others :
+    is_newly_distinguished 1
+    (by_entry (member 0 (Some rules.ByCite) undisambiguated (anna ∷ [])) ∷ record (by_entry (member 0 (Some rules.ByCite) undisambiguated (anna ∷ []))) { index = 1 } ∷ by_entry (member 1 (Some rules.ByCite) undisambiguated (bert ∷ [])) ∷ [])
+    (by_entry (member 0 (Some rules.ByCite) undisambiguated (anna ∷ [])))
+    ≡ true
+unfolding member by_entry anna bert person
+against_others = refl
+
+-- in other styles it does
+against_all :
+    is_newly_distinguished 1
+    (member 0 (Some rules.ByCite) undisambiguated (anna ∷ []) ∷ record (member 0 (Some rules.ByCite) undisambiguated (anna ∷ [])) { index = 1 } ∷ member 1 (Some rules.ByCite) undisambiguated (bert ∷ []) ∷ [])
+    (member 0 (Some rules.ByCite) undisambiguated (anna ∷ []))
+    ≡ false
+unfolding member anna bert person
+against_all = refl
+
+-- there the others are those at other indices
+by_index : (ms : List Member) (m : Member) → others ms (record m { cite = record m.cite { same_entry_is_no_rival = false } }) ≡ filter (λ o. not (o.index == m.index)) ms
+by_index ms m = refl

@@ -1,17 +1,20 @@
 -- How many of the first people of a cite are those of another one.
-use Rattle.std.proofs.Common.{◌≡◌, ℕ, zero, suc, ◌+◌, ◌<◌, ◌≤◌, Bool, true, false, cond, ◌&&◌, ◌||◌, nat_eq, nat_lt, List, [], ◌∷◌, ◌++◌, map, length, get_or, take, replicate, String, string_eq, refl, sym, ap, ◌∙◌, Option, Some, None, arith, rules}
-use Rattle.std.specs.Prelude.{count_by, slice_get}
+use Rattle.std.proofs.Common.{◌≡◌, ℕ, zero, suc, ◌+◌, ◌<◌, ◌≤◌, Bool, true, false, cond, ◌&&◌, ◌||◌, nat_eq, nat_lt, List, [], ◌∷◌, ◌++◌, All, map, length, get_or, take, replicate, String, string_eq, refl, sym, ap, ◌∙◌, Option, Some, None, arith, rules}
+use Rattle.std.specs.Prelude.{not, ◌==◌, count_by, filter, slice_get}
 use Rattle.std.specs.Borrow.{Bor}
 use Rattle.std.specs.Global.{Global}
 use Rattle.std.specs.Cmp.{IsEquivalence}
 use Rattle.std.specs.Cmp.Lexicographic.{pointwise}
-use Rattle.std.specs.List.{enumerate_from, list_any, position_or_len, zip}
+use Rattle.std.specs.List.{enumerate_from, flat_map, list_any, position_or_len, zip}
 use Rattle.std.specs.Option.{option_copied, option_eq, option_map, unwrap_or}
 use Rattle.std.proofs.Math.Path.{fun_ext}
 use Rattle.std.proofs.lemmas.Bool.{and_parts, or_parts}
 use Rattle.std.proofs.lemmas.Bool.Decides.{Decides-and}
 use Rattle.std.proofs.lemmas.Cmp.{lists_equiv}
-use Rattle.std.proofs.lemmas.List.{get_or-map, get_or_default, length-map, map-append, map_more, take_all, take_more}
+use Rattle.std.proofs.lemmas.List.Elements.{All-head, All-tail}
+use Rattle.std.proofs.lemmas.List.Sums.{sum_by-cons}
+use Rattle.std.proofs.lemmas.List.Concat.{flat_map-append}
+use Rattle.std.proofs.lemmas.List.{append-nil, get_or-map, get_or_default, length-map, map-append, map_more, take_all, take_more}
 use Rattle.std.proofs.lemmas.Simd.{splat_is_map}
 use Rattle.std.proofs.lemmas.Slice.Zip.{get_or-zip, length-zip}
 use Rattle.laws.specs.Equality.{Shows}
@@ -21,13 +24,20 @@ use Rattle.literature_values.specs.PersonViews.{Named}
 use Rattle.rendering_tree.specs.Metas.{is_person}
 use Rattle.rendering_tree.proofs.SameDecided.{Decides-is_person}
 use Rattle.rendering_tree.proofs.ViewsEquality.{agreed}
-use Rattle.driver_names.specs.Names.{Member, compared, compared_first, others, rule_for}
-use Rattle.driver_names.specs.Shared.{AreInOrder, agrees_by, all_shared_where, compared_at, first_agreeing, groups_by, is_key, is_rule, key_at, key_view, last_passing, compared_name_view, shared_people, shared_where, shares}
+use Rattle.driver_names.specs.Names.{Member, compared, compared_first, is_by_entry, is_of_entry, others, rule_for}
+use Rattle.driver_names.specs.Shared.{AreInOrder, agrees_by, all_shared_where, compared_at, first_agreeing, groups_by, is_key, is_own_key, is_rule, key_at, key_view, last_passing, compared_name_view, own_key, own_keys, own_size, shared_people, shared_where, shares}
 use Rattle.driver_names.specs.contracts.names_compared.ComparedNamePartialEq.TheImpl as name
 use Rattle.driver_names.specs.declared.names_compared.ComparedName.{ComparedName}
-use Rattle.driver_names.proofs.Counting.{another, first-same, firsts-among, last-is, members_found, pointwise_next, sizes}
+use Rattle.driver_names.proofs.Counting.{and_true, another, apart_some, first-same, firsts-among, last-is, members_found, pointwise_next, sizes}
 use Rattle.rendering_taxonomy.specs.declared.style.DisambiguationRule.{DisambiguationRule}
 use Rattle.rendering_taxonomy.specs.declared.style.DisambiguationRule.TheVariants as variants
+
+and_false : (b : Bool) → (b && false) ≡ false
+and_false true = refl
+and_false false = refl
+
+pub none_more : (n : ℕ) → 0 + n ≡ n
+none_more n = omega arith
 
 -- whether two people are the same is an equivalence
 person_equiv : IsEquivalence is_person
@@ -157,17 +167,49 @@ module _ (r : Option DisambiguationRule) (ms : List Member) (n : ℕ) where
       ∙ ap (λ vs. map (λ v. position_or_len (is_key v) vs) vs) (are ∙ keys_of_members groups is)
       ∙ firsts-among (λ m. list_any (agrees_by r n m) ms ≡ true) key_of is_key (agrees_by r (n + 1)) keys_agree ms (members_found (agrees_equiv r n) ms)
 
--- whether a cite shares people, by how many cites are in its group
-pub shares_in_group : (r : Option DisambiguationRule) (ms : List Member) (n i : ℕ) (m : Member) (groups : List ℕ) (size : ℕ) → AreInOrder ms → i < length ms → m ≡ get_or ms i m
-    → groups ≡ groups_by r ms (n + 1) → size ≡ count_by (nat_eq (get_or groups i 0)) groups → nat_lt 1 size ≡ shares r ms m n
-shares_in_group r ms n i m groups size order low at is many =
+own_step : (by near : Bool) (k : ℕ × ℕ) (q : ℕ × ℕ → Bool) (t : Member → Bool) (x : Member) (ks : List (ℕ × ℕ)) (ys : List Member) → q k ≡ (t x && near) → count_by q ks ≡ count_by t ys
+    → count_by q (cond by (k ∷ []) [] ++ ks) ≡ count_by t (cond (by && near) (x ∷ ys) ys)
+own_step false near k q t x ks ys same rest = rest
+own_step true true k q t x ks ys same rest =
+    sum_by-cons (λ l. cond (q l) 1 0) k ks ∙ (λ j. cond ((same ∙ and_true (t x)) j) 1 0 + rest j) ∙ sym (sum_by-cons (λ y. cond (t y) 1 0) x ys)
+own_step true false k q t x ks ys same rest = sum_by-cons (λ l. cond (q l) 1 0) k ks ∙ (λ j. cond ((same ∙ and_false (t x)) j) 1 0 + rest j) ∙ none_more (count_by t ys)
+
+module _ (r : Option DisambiguationRule) (ms : List Member) (n : ℕ) where
+  own_each : (xs : List Member) → own_keys (map (first_agreeing r ms n) xs) xs ≡ flat_map (λ x. own_key (first_agreeing r ms n x) x) xs
+  own_each [] = refl
+  own_each (x ∷ xs) = ap (λ ks. own_key (first_agreeing r ms n x) x ++ ks) (own_each xs)
+
+  own_among : (m : Member) → list_any (agrees_by r n m) ms ≡ true → (xs : List Member) → All (λ x. list_any (agrees_by r n x) ms ≡ true) xs
+      → count_by (is_own_key (first_agreeing r ms n m, m.cite.entry)) (flat_map (λ x. own_key (first_agreeing r ms n x) x) xs) ≡ count_by (agrees_by r n m) (filter (is_of_entry m.cite.entry) xs)
+  own_among m here [] all = refl
+  own_among m here (x ∷ xs) all =
+      let G : Member → Type 0 = λ y. list_any (agrees_by r n y) ms ≡ true in
+      own_step (is_by_entry x) (nat_eq m.cite.entry x.cite.entry) (first_agreeing r ms n x, x.cite.entry) (is_own_key (first_agreeing r ms n m, m.cite.entry)) (agrees_by r n m) x
+      (flat_map (λ y. own_key (first_agreeing r ms n y) y) xs) (filter (is_of_entry m.cite.entry) xs)
+      (ap (λ b. b && nat_eq m.cite.entry x.cite.entry) (first-same (agrees_equiv r n) ms m x here (All-head G x xs all))) (own_among m here xs (All-tail G x xs all))
+
+-- whether a cite shares people, by how many cites are in its group, and how many of these are its own
+share_cases : (r : Option DisambiguationRule) (ms : List Member) (n i : ℕ) (m : Member) (groups : List ℕ) → AreInOrder ms → i < length ms → get_or ms i m ≡ m
+    → groups ≡ groups_by r ms n → list_any (agrees_by r n m) ms ≡ true → (b : Bool)
+    → nat_lt (cond b (count_by (is_own_key (first_agreeing r ms n m, m.cite.entry)) (own_keys groups ms)) 1) (count_by (agrees_by r n m) ms)
+    ≡ list_any (agrees_by r n m) (filter (λ o. not (cond b (is_of_entry m.cite.entry o) (o.index == m.index))) ms)
+share_cases r ms n i m groups order low at is here true =
+    let own = is_own_key (first_agreeing r ms n m, m.cite.entry) in
+    ap (λ k. nat_lt k (count_by (agrees_by r n m) ms))
+    (ap (λ gs. count_by own (own_keys gs ms)) is ∙ ap (count_by own) (own_each r ms n ms) ∙ own_among r ms n m here ms (members_found (agrees_equiv r n) ms))
+    ∙ sym (apart_some (is_of_entry m.cite.entry) (agrees_by r n m) ms)
+share_cases r ms n i m groups order low at is here false = sym (another (λ o. o.index) (agrees_by r n m) ms i m order low at ((agrees_equiv r n).refl m))
+
+pub shares_in_group : (r : Option DisambiguationRule) (ms : List Member) (n i : ℕ) (m : Member) (groups : List ℕ) (own size : ℕ) → AreInOrder ms → i < length ms → m ≡ get_or ms i m
+    → groups ≡ groups_by r ms (n + 1) → own ≡ own_size (own_keys groups ms) (get_or groups i 0) m → size ≡ count_by (nat_eq (get_or groups i 0)) groups → nat_lt own size ≡ shares r ms m n
+shares_in_group r ms n i m groups own size order low at is owns many =
     let laws = agrees_equiv r (n + 1) in
     let at_same : get_or ms i m ≡ m = sym at in
-    let own : get_or groups i 0 ≡ first_agreeing r ms (n + 1) m =
+    let group : get_or groups i 0 ≡ first_agreeing r ms (n + 1) m =
     ap (λ gs. get_or gs i 0) is ∙ get_or-map (first_agreeing r ms (n + 1)) ms i m 0 low ∙ ap (first_agreeing r ms (n + 1)) at_same in
     let here : list_any (agrees_by r (n + 1) m) ms ≡ true = ap (λ x. list_any (agrees_by r (n + 1) x) ms) at ∙ members_found laws ms i m low in
-    let as_many : size ≡ count_by (agrees_by r (n + 1) m) ms = many ∙ (λ k. count_by (nat_eq (own k)) (is k)) ∙ sizes laws ms m here in
-    ap (nat_lt 1) as_many ∙ sym (another (λ o. o.index) (agrees_by r (n + 1) m) ms i m order low at_same (laws.refl m))
+    let as_many : size ≡ count_by (agrees_by r (n + 1) m) ms = many ∙ (λ k. count_by (nat_eq (group k)) (is k)) ∙ sizes laws ms m here in
+    (λ k. nat_lt ((owns ∙ ap (λ g. own_size (own_keys groups ms) g m) group) k) (as_many k)) ∙ share_cases r ms (n + 1) i m groups order low at_same is here (is_by_entry m)
 
 set_one : (t : ℕ → Bool) (n v : ℕ) (b : Bool) → cond (b && t n) (n + 1) (cond b (last_passing v t n) v) ≡ cond b (last_passing v t (n + 1)) v
 set_one t n v true =
@@ -277,6 +319,31 @@ beside_step {X = X} view f gs ms i m old new y same low at before is after =
     after
     ∙ (λ k. before k ++ is k ∷ [])
     ∙ sym (map_more (λ p. f p.0 p.1) (zip gs xs) i (g, view m) there ∙ ap (λ p. map (λ q. f q.0 q.1) (take i (zip gs xs)) ++ f p.0 p.1 ∷ []) pair)
+
+-- the same of what is made of each and appended
+pub beside_more : {M X Y : Type 0} (view : M → X) (f : ℕ → X → List Y) (gs : List ℕ) (ms : List M) (i : ℕ) (m : M) (old new : List Y) → length gs ≡ length ms → i < length ms → m ≡ get_or ms i m
+    → old ≡ flat_map (λ p. f p.0 p.1) (take i (zip gs (map view ms))) → new ≡ old ++ f (get_or gs i 0) (view m) → new ≡ flat_map (λ p. f p.0 p.1) (take (i + 1) (zip gs (map view ms)))
+beside_more {X = X} view f gs ms i m old new same low at before after =
+    let xs : List X = map view ms in
+    let viewed : length xs ≡ length ms = length-map ms view in
+    let low_view : i < length xs = omega (arith, viewed, low) in
+    let low_beside : i < length gs = omega (arith, same, low) in
+    let g = get_or gs i 0 in
+    let there : i < length (zip gs xs) = omega (arith, length-zip gs xs, same, viewed, low) in
+    let x : get_or xs i (view m) ≡ view m = get_or-map view ms i m (view m) low ∙ ap view (sym at) in
+    let pair : get_or (zip gs xs) i (g, view m) ≡ (g, view m) =
+    get_or-zip gs xs i (g, view m) low_beside low_view ∙ (λ k. (get_or_default gs i g 0 low_beside k, x k)) in
+    after
+    ∙ (λ k. before k ++ f g (view m))
+    ∙ sym (
+    ap (flat_map (λ p. f p.0 p.1)) (take_more (zip gs xs) i (g, view m) there ∙ ap (λ p. take i (zip gs xs) ++ p ∷ []) pair)
+    ∙ flat_map-append (λ p. f p.0 p.1) (take i (zip gs xs)) ((g, view m) ∷ [])
+    ∙ ap (λ ys. flat_map (λ p. f p.0 p.1) (take i (zip gs xs)) ++ ys) (append-nil (f g (view m))))
+
+pub beside_each : {X Y : Type 0} (f : ℕ → X → List Y) (gs : List ℕ) (xs : List X) (i : ℕ) (out : List Y) → length gs ≡ length xs → length xs ≤ i → out ≡ flat_map (λ p. f p.0 p.1) (take i (zip gs xs))
+    → out ≡ flat_map (λ p. f p.0 p.1) (zip gs xs)
+beside_each f gs xs i out same past is =
+    let past_pairs : length (zip gs xs) ≤ i = omega (arith, length-zip gs xs, same, past) in is ∙ ap (flat_map (λ p. f p.0 p.1)) (take_all i (zip gs xs) past_pairs)
 
 -- after all of them
 pub beside_all : {X Y : Type 0} (f : ℕ → X → Y) (gs : List ℕ) (xs : List X) (i : ℕ) (out : List Y) → length gs ≡ length xs → length xs ≤ i → out ≡ map (λ p. f p.0 p.1) (take i (zip gs xs))

@@ -1,6 +1,5 @@
 -- What cites share stays while the cites of a class are disambiguated.
 use Rattle.std.proofs.Common.{◌≡◌, ℕ, ◌+◌, Bool, true, false, cond, not, ◌&&◌, List, [], ◌∷◌, map, length, refl, sym, ap, ◌∙◌, Option, None}
-use Rattle.std.specs.Prelude.{◌==◌}
 use Rattle.std.specs.List.{enumerate_from, list_any, range_with_len}
 use Rattle.std.specs.Option.{option_map, option_map_or}
 use Rattle.std.proofs.Math.Path.{fun_ext}
@@ -8,7 +7,7 @@ use Rattle.std.proofs.lemmas.Simd.{map-map}
 use Rattle.rendering_people.specs.Properties.{Properties, with_name}
 use Rattle.rendering_taxonomy.specs.declared.style.DisambiguationRule.{DisambiguationRule}
 use Rattle.driver_names.specs.Prints.{Printed}
-use Rattle.driver_names.specs.Names.{Member, all_shown_up_to, distinguished_at, distinguished_by, form_wanted, is_newly_distinguished, member, members, names_may_change, raised_names, raises, rule_for, showing_up_to}
+use Rattle.driver_names.specs.Names.{Member, all_shown_up_to, distinguished_at, distinguished_by, form_wanted, is_newly_distinguished, is_own, member, members, names_may_change, raised_names, raises, rule_for, showing_up_to}
 use Rattle.driver_names.specs.Shared.{AreInOrder, agrees_by, last_passing, shared_people, shares}
 use Rattle.driver_names.proofs.NamesDistinguished.{any-filter, any-map}
 
@@ -26,9 +25,9 @@ in_order ss = indices_from 0 ss
 
 shares_bare : (r : Option DisambiguationRule) (ms : List Member) (m : Member) (n : ℕ) → shares r (map bare ms) (bare m) n ≡ shares r ms m n
 shares_bare r ms m n =
-    any-filter (agrees_by r (n + 1) (bare m)) (λ o. not (o.index == m.index)) (map bare ms)
-    ∙ any-map (λ o. not (o.index == m.index) && agrees_by r (n + 1) (bare m) o) bare ms
-    ∙ sym (any-filter (agrees_by r (n + 1) m) (λ o. not (o.index == m.index)) ms)
+    any-filter (agrees_by r (n + 1) (bare m)) (λ o. not (is_own (bare m) o)) (map bare ms)
+    ∙ any-map (λ o. not (is_own (bare m) o) && agrees_by r (n + 1) (bare m) o) bare ms
+    ∙ sym (any-filter (agrees_by r (n + 1) m) (λ o. not (is_own m o)) ms)
 
 -- what a cite shares with others stays without what is found of them
 pub shared_one : (most : ℕ) (ms : List Member) (m : Member) → shared_people most (map bare ms) (bare m) ≡ shared_people most ms m

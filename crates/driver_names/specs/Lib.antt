@@ -5,3 +5,4 @@ pub mod NamesViews
 pub mod Keys
 pub mod Shared
 pub mod Namesakes
+pub mod FirstNames

@@ -84,9 +84,21 @@ member (index, s) = record { index = index; cite = s; people = people_in s.tree;
 abbrev pub members : List Printed → List Member
 members ss = map member (enumerate_from 0 ss)
 
--- the other members
+-- whether the style of a member says that cites of one entry are not compared with each other
+abbrev pub is_by_entry : Member → Bool
+is_by_entry m = m.cite.same_entry_is_no_rival
+
+-- whether a member is of an entry, and its style says so
+abbrev pub is_of_entry : ℕ → Member → Bool
+is_of_entry entry m = is_by_entry m && entry == m.cite.entry
+
+-- whether a member is not compared with another one: it is that itself, or, where its style says so, one of its entry
+abbrev pub is_own : Member → Member → Bool
+is_own m o = if is_by_entry m then is_of_entry m.cite.entry o else o.index == m.index
+
+-- the members that one is compared with
 abbrev pub others : List Member → Member → List Member
-others ms m = filter (λ o. not (o.index == m.index)) ms
+others ms m = filter (λ o. not (is_own m o)) ms
 
 -- the rule of a cite's style
 abbrev pub rule_for : Member → Option DisambiguationRule

@@ -9,11 +9,12 @@ use Rattle.rendering_context.specs.Cites.{DisambiguateState}
 use Rattle.driver_requests.specs.Suffixes.{Origin}
 use Rattle.rendering_taxonomy.specs.declared.style.DisambiguationRule.{DisambiguationRule}
 
--- A cite that is to be disambiguated: its entry by its index, whether that has a date, and its style. `printed` is what it prints by a
--- state, without its locator. Of what it prints undisambiguated: whether the test `disambiguate` was evaluated, and how much of its
--- first names element it printed.
+-- A cite that is to be disambiguated: its entry by its index, the number of that, whether it has a date, and its style. `printed` is what
+-- it prints by a state, without its locator. Of what it prints undisambiguated: whether the test `disambiguate` was evaluated, and how
+-- much of its first names element it printed.
 pub record Candidate : Type 0 where
   pub entry : ℕ
+  pub number : ℕ
   pub has_date : Bool
   pub style : Citation
   pub printed : DisambiguateState → Children
@@ -24,14 +25,18 @@ pub record Candidate : Type 0 where
 abbrev pub rule_of : Citation → Option DisambiguationRule
 rule_of c = if c.add_givenname then Some c.givenname_rule else None
 
--- A cite at the start of a round. Of its candidate: the entry, whether that has a date, the rule by which its style compares given
--- names, whether the style adds year suffixes, and what is known of its print undisambiguated. `tree` and `text` are what it prints by its
--- state.
+-- A cite at the start of a round. Of its candidate: the entry, its number, whether it has a date, the rule by which its style compares
+-- given names, what else the style says of disambiguation, and what is known of its print undisambiguated. `tree` and `text` are what it
+-- prints by its state.
 pub record Printed : Type 0 where
   pub entry : ℕ
+  pub number : ℕ
   pub has_date : Bool
   pub rule : Option DisambiguationRule
   pub adds_suffix : Bool
+  pub first_chooses_too : Bool
+  pub same_entry_is_no_rival : Bool
+  pub suffixes_by_number : Bool
   pub met_disambiguate : Bool
   pub names : Option Properties
   pub state : DisambiguateState
@@ -42,9 +47,13 @@ pub record Printed : Type 0 where
 abbrev pub printed_as : Candidate → DisambiguateState → Children → Printed
 printed_as c state tree = record {
   entry = c.entry;
+  number = c.number;
   has_date = c.has_date;
   rule = rule_of c.style;
   adds_suffix = c.style.add_year_suffix;
+  first_chooses_too = c.style.first_chooses_too;
+  same_entry_is_no_rival = c.style.same_entry_is_no_rival;
+  suffixes_by_number = c.style.suffixes_by_number;
   met_disambiguate = c.met_disambiguate;
   names = c.names;
   state = state;

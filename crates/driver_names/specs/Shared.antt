@@ -1,12 +1,12 @@
 -- How many of the first people of a cite are those of another cite of its class.
-use Rattle.std.specs.Prelude.{◌≡◌, ℕ, zero, suc, ◌+◌, ◌<◌, Bool, ◌==◌, ◌&&◌, List, map, length, slice_get, if◌then◌else◌, Option, Some, None}
-use Rattle.std.specs.List.{list_any, position_or_len, range_with_len, zip}
+use Rattle.std.specs.Prelude.{◌≡◌, ℕ, zero, suc, ◌+◌, ◌<◌, Bool, ◌==◌, ◌&&◌, List, [], ◌∷◌, map, count_by, length, slice_get, if◌then◌else◌, Option, Some, None}
+use Rattle.std.specs.List.{flat_map, list_any, position_or_len, range_with_len, zip}
 use Rattle.std.specs.Option.{option_copied, option_eq, option_map}
 use Rattle.std.specs.Cmp.Lexicographic.{pointwise}
 use Rattle.laws.specs.Text.{characters}
 use Rattle.literature_values.specs.PersonViews.{Named}
 use Rattle.rendering_tree.specs.Metas.{is_person}
-use Rattle.driver_names.specs.Names.{Member, compared, compared_first, others, rule_for}
+use Rattle.driver_names.specs.Names.{Member, compared, compared_first, is_by_entry, others, rule_for}
 use Rattle.driver_names.specs.declared.names_compared.ComparedName.{ComparedName}
 use Rattle.rendering_taxonomy.specs.declared.style.DisambiguationRule.{DisambiguationRule}
 use Rattle.rendering_taxonomy.specs.declared.style.DisambiguationRule.TheVariants as rules
@@ -89,3 +89,19 @@ key_view k = (k.0, option_map compared_name_view k.1)
 -- whether two groups are one and two names beside them the same
 abbrev pub is_key : ℕ × Option Named → ℕ × Option Named → Bool
 is_key k l = k.0 == l.0 && option_eq is_person k.1 l.1
+
+-- a group beside the entry of a cite of it, where the cite's style does not compare cites of one entry
+abbrev pub own_key : ℕ → Member → List (ℕ × ℕ)
+own_key group m = if is_by_entry m then (group, m.cite.entry) ∷ [] else []
+
+-- the groups of such cites beside their entries
+abbrev pub own_keys : List ℕ → List Member → List (ℕ × ℕ)
+own_keys groups ms = flat_map (λ p. own_key p.0 p.1) (zip groups ms)
+
+-- whether two groups are one, and the entries beside them
+abbrev pub is_own_key : ℕ × ℕ → ℕ × ℕ → Bool
+is_own_key k l = k.0 == l.0 && k.1 == l.1
+
+-- how many cites of its group a cite is not compared with: itself alone, or those of its entry
+abbrev pub own_size : List (ℕ × ℕ) → ℕ → Member → ℕ
+own_size keys group m = if is_by_entry m then count_by (is_own_key (group, m.cite.entry)) keys else 1

@@ -17,9 +17,13 @@ use Rattle.driver_names.specs.declared.printed.Printed.{Printed}
 abbrev pub printed_as_view : Candidate → DisambiguateState → Children → prints.Printed
 printed_as_view c state printed = record {
   entry = c.entry;
+  number = c.number;
   has_date = c.has_date;
   rule = c.rule;
   adds_suffix = c.adds_suffix;
+  first_chooses_too = c.first_chooses_too;
+  same_entry_is_no_rival = c.same_entry_is_no_rival;
+  suffixes_by_number = c.suffixes_by_number;
   met_disambiguate = c.met_disambiguate;
   names = c.names;
   state = state;

@@ -10,9 +10,11 @@ mod names_people;
 mod names_raised;
 mod names_shared;
 mod namesakes;
+mod people_disambiguated;
 mod printed;
 mod same_keys;
 
 pub use given_state::GivenState;
 pub use names::states_by_names;
+pub use people_disambiguated::first_names;
 pub use printed::{Candidate, Printed, plain_text, push_where};

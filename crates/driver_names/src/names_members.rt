@@ -5,7 +5,7 @@ ghost use Rattle.std.specs.List.{flat_map, list_any};
 ghost use Rattle.std.specs.Option.{option_map};
 ghost use Rattle.driver_requests.specs.SuffixViews.{origin_view};
 ghost use Rattle.driver_names.specs.Names as names;
-ghost use Rattle.driver_names.specs.Names.{states_by_names_of, own_names, people_compared, showing_up_to};
+ghost use Rattle.driver_names.specs.Names.{is_by_entry, states_by_names_of, own_names, people_compared, showing_up_to};
 ghost use Rattle.driver_names.specs.Namesakes.{AreFormsAt, may_be_distinguished, distinction_of};
 ghost use Rattle.driver_names.specs.NamesViews.{distinction, state_of_member, member_view, members_view, shown_with, with_distinction};
 ghost use Rattle.driver_names.specs.Shared.{AreShared};
@@ -78,7 +78,11 @@ pub(crate) fn members<'a>(
 }
 
 /// A cite of a class, before people are compared.
-fn member_at<'a>(alloc: Global, index: usize, cite: &'a Printed) -> Result<Member<'a>, AllocError>
+pub(crate) fn member_at<'a>(
+    alloc: Global,
+    index: usize,
+    cite: &'a Printed,
+) -> Result<Member<'a>, AllocError>
     ensures { IfOk result (λ m. member_view m ≡ names.member (index, printed_view cite.now)) }
 {
     let people = people_in(alloc, &cite.tree)?;
@@ -167,6 +171,13 @@ fn show_all(members: &mut [Member], nth: usize, distinctions: &[Option<Distincti
 }
 
 impl<'a> Member<'a> {
+    /// Whether its style says that cites of one entry are not compared with each other.
+    pub(crate) fn is_by_entry(&self) -> bool
+        ensures { result ≡ is_by_entry (member_view self.now) }
+    {
+        self.cite.cite.same_entry_is_no_rival
+    }
+
     /// What the people up to an index tell of it, where it shares so many first people with another cite, by the form to which the name
     /// at that index is raised.
     fn distinction(
@@ -258,7 +269,7 @@ fn push_state(given: &mut Vec<GivenState>, origin: Origin, member: Member) -> Re
 }
 
 /// Appends the state of an entry by names, where these print more than others.
-fn push_if_more(
+pub(crate) fn push_if_more(
     given: &mut Vec<GivenState>,
     origin: Origin,
     entry: usize,

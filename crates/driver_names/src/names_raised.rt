@@ -3,8 +3,8 @@
 ghost use Rattle.std.specs.Prelude.{◌≡◌, ◌==◌, List, None, length, map, replicate, IfOk};
 ghost use Rattle.std.specs.List.{list_any};
 ghost use Rattle.std.specs.Option.{option_map};
-ghost use Rattle.literature_values.specs.PersonViews.{Named};
 ghost use Rattle.rendering_people.specs.Properties.{with_name};
+ghost use Rattle.driver_names.specs.Names as names_specs;
 ghost use Rattle.driver_names.specs.Names.{raised_form, raised_names, raises};
 ghost use Rattle.driver_names.specs.Namesakes as namesakes_specs;
 ghost use Rattle.driver_names.specs.Namesakes.{AreCounts, form_among, form_at, form_counted, is_raised, is_raised_after};
@@ -74,8 +74,8 @@ fn form_after<'m>(
     shared: usize,
     most: usize,
 ) -> Option<DisambiguatedNameForm>
-    ensures { (all : List Named) → AreCounts counts.now all
-        → result ≡ form_counted all most shared (member_view member.now) }
+    ensures { (ms : List names_specs.Member) → AreCounts counts.now ms
+        → result ≡ form_counted ms most shared (member_view member.now) }
 {
     if member.is_raised(most, shared) {
         form_at(counts, member, shared)
@@ -90,8 +90,8 @@ fn form_at<'m>(
     member: &'m Member,
     index: usize,
 ) -> Option<DisambiguatedNameForm>
-    ensures { (all : List Named) → AreCounts counts.now all
-        → result ≡ form_at all index (member_view member.now) }
+    ensures { (ms : List names_specs.Member) → AreCounts counts.now ms
+        → result ≡ form_at ms index (member_view member.now) }
 {
     match member.people.get(index) {
         Some(person) => form_among(counts, member, person),
@@ -106,8 +106,8 @@ fn form_among<'m>(
     member: &Member,
     person: &'m CitedPerson,
 ) -> Option<DisambiguatedNameForm>
-    ensures { (all : List Named) → AreCounts counts.now all
-        → result ≡ form_among all (member_view member.now) person.now }
+    ensures { (ms : List names_specs.Member) → AreCounts counts.now ms
+        → result ≡ form_among ms (member_view member.now) person.now }
 {
     if counts.has_alike_namesake(member, person) {
         Some(DisambiguatedNameForm::LongFull)

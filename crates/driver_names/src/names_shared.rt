@@ -1,12 +1,13 @@
 //! How many of the first people of cites are the same.
 
-ghost use Rattle.std.specs.Prelude.{◌≡◌, ◌+◌, ◌<◌, ◌^◌, ◌&&◌, nat_lt, length, map, replicate, if◌then◌else◌, IfOk, OnOk};
+ghost use Rattle.std.specs.Prelude.{◌≡◌, ℕ, ◌+◌, ◌<◌, ◌^◌, ◌&&◌, ◌++◌, nat_lt, List, length, map, replicate, if◌then◌else◌, IfOk, OnOk};
 ghost use Rattle.std.specs.List.{list_any, zip};
 ghost use Rattle.std.specs.Option.{option_map};
+ghost use Rattle.driver_names.specs.Keys.{IsTally};
 ghost use Rattle.driver_names.specs.Names.{rule_for};
 ghost use Rattle.driver_names.specs.NamesViews.{member_view, members_view};
 ghost use Rattle.driver_names.specs.Shared as shared_specs;
-ghost use Rattle.driver_names.specs.Shared.{AreInOrder, all_shared_where, compared_at, groups_by, is_rule, key_at, key_view, compared_name_view, shares};
+ghost use Rattle.driver_names.specs.Shared.{AreInOrder, all_shared_where, compared_at, groups_by, is_own_key, is_rule, key_at, key_view, compared_name_view, shares};
 
 use crate::names_compared::ComparedName;
 use crate::names_members::Member;
@@ -138,11 +139,31 @@ fn are_sharing(
         (members_view members.now)) }
 {
     let sizes = Tally::new(alloc, groups)?;
+    let keys = own_keys(alloc, members, groups)?;
+    let own_sizes = Tally::new(alloc, keys.as_slice())?;
     let mut sharing = Vec::with_capacity(alloc, members.len())?;
     for (at, member) in members.iter().enumerate() {
-        sharing.push(member.is_sharing(rule, sizes.count(&groups[at])))?;
+        let own = member.own_size(&own_sizes, groups[at]);
+        sharing.push(member.is_sharing(rule, own, sizes.count(&groups[at])))?;
     }
     Ok(sharing)
+}
+
+/// The groups of cites whose styles do not compare cites of one entry, beside their entries.
+fn own_keys(
+    alloc: Global,
+    members: &[Member],
+    groups: &[usize],
+) -> Result<Vec<(usize, usize)>, AllocError>
+    requires { length groups.now ≡ length members.now }
+    ensures { IfOk result (λ ks. ks.items
+        ≡ shared_specs.own_keys groups.now (members_view members.now)) }
+{
+    let mut keys = Vec::new(alloc);
+    for (at, member) in members.iter().enumerate() {
+        member.push_own_key(groups[at], &mut keys)?;
+    }
+    Ok(keys)
 }
 
 /// Puts a number where it is wanted.
@@ -172,11 +193,34 @@ impl<'a> Member<'a> {
         self.cite.cite.rule == rule
     }
 
-    /// Whether its style has a rule, and it is one of several cites in a group of so many.
-    fn is_sharing(&self, rule: Option<Rule>, size: usize) -> bool
-        ensures { result ≡ (is_rule (rule_for (member_view self.now)) rule && nat_lt 1 size) }
+    /// Whether its style has a rule, and it is compared with some cite in a group of so many, of which so many are its own.
+    fn is_sharing(&self, rule: Option<Rule>, own: usize, size: usize) -> bool
+        ensures { result ≡ (is_rule (rule_for (member_view self.now)) rule && nat_lt own size) }
     {
-        self.has_rule(rule) && size > 1
+        self.has_rule(rule) && own < size
+    }
+
+    /// Appends its group beside its entry, where its style does not compare cites of one entry.
+    fn push_own_key(&self, group: usize, keys: &mut Vec<(usize, usize)>) -> Result<(), AllocError>
+        ensures { OnOk result (keys.new.items
+            ≡ keys.old.items ++ shared_specs.own_key group (member_view self.now)) }
+    {
+        if self.is_by_entry() {
+            keys.push((group, self.cite.cite.entry))?;
+        }
+        Ok(())
+    }
+
+    /// How many cites of its group it is not compared with, by how often the group stands beside each entry.
+    fn own_size(&self, sizes: &Tally<(usize, usize)>, group: usize) -> usize
+        ensures { (keys : List (ℕ × ℕ)) → IsTally is_own_key sizes.now keys
+            → result ≡ shared_specs.own_size keys group (member_view self.now) }
+    {
+        if self.is_by_entry() {
+            sizes.count(&(group, self.cite.cite.entry))
+        } else {
+            1
+        }
     }
 
     /// The name of its person at an index, as a rule compares names.

@@ -1,13 +1,14 @@
 //! How many people of the cites of a class are namesakes of a person.
 
-ghost use Rattle.std.specs.Prelude.{◌≡◌, ◌++◌, List, count_by, map, IfOk, OnOk};
+ghost use Rattle.std.specs.Prelude.{◌≡◌, ◌++◌, List, None, count_by, map, IfOk, OnOk};
+ghost use Rattle.std.specs.List.{flat_map};
 ghost use Rattle.std.specs.Option.{option_copied, option_map};
 ghost use Rattle.laws.specs.Text.{characters};
-ghost use Rattle.literature_values.specs.PersonViews.{Named};
 ghost use Rattle.rendering_tree.specs.Metas.{is_person};
+ghost use Rattle.driver_names.specs.Names as names_specs;
 ghost use Rattle.driver_names.specs.Names.{is_namesake};
 ghost use Rattle.driver_names.specs.NamesViews.{is_alike_namesake, member_view, members_view};
-ghost use Rattle.driver_names.specs.Namesakes.{AreCounts, IsCount, all_people, family, has_more, part_of};
+ghost use Rattle.driver_names.specs.Namesakes.{AreCounts, IsCount, family, has_more, own_parts, own_people, part_of, parts_within, people_within, scoped_parts, scoped_view};
 ghost use Rattle.driver_names.specs.Shared.{compared_name_view};
 
 use crate::names_compared::ComparedName;
@@ -27,18 +28,19 @@ pub(crate) enum NamePart {
     Whole,
 }
 
-/// How many people of the cites of a class have each name.
+/// How many people of the cites of a class have each name: all of them, and those of each entry whose cites are not compared with each
+/// other.
 #[derive(Drop)]
 pub(crate) struct NameCounts<'m> {
-    pub(crate) families: Tally<ComparedName<'m>>,
-    pub(crate) initialed: Tally<ComparedName<'m>>,
-    pub(crate) whole: Tally<ComparedName<'m>>,
+    pub(crate) families: Tally<(Option<usize>, ComparedName<'m>)>,
+    pub(crate) initialed: Tally<(Option<usize>, ComparedName<'m>)>,
+    pub(crate) whole: Tally<(Option<usize>, ComparedName<'m>)>,
 }
 
 impl<'m> NameCounts<'m> {
     /// Counts the people of all cites.
     pub(crate) fn new(alloc: Global, members: &'m [Member]) -> Result<NameCounts<'m>, AllocError>
-        ensures { IfOk result (λ c. AreCounts c (all_people (members_view members.now))) }
+        ensures { IfOk result (λ c. AreCounts c (members_view members.now)) }
     {
         let families = counts_by(alloc, NamePart::Family, members)?;
         let initialed = counts_by(alloc, NamePart::FamilyAndInitials, members)?;
@@ -50,48 +52,76 @@ impl<'m> NameCounts<'m> {
         })
     }
 
-    /// Whether more people are namesakes of a person than in a cite.
+    /// Whether a person has a namesake in a cite that a cite is compared with: more than in those that it is not compared with.
     pub(crate) fn has_namesake(&self, member: &Member, person: &'m CitedPerson) -> bool
-        ensures { (all : List Named) → AreCounts self.now all
-            → result ≡ has_more (is_namesake person.now) all (member_view member.now) }
+        ensures { (ms : List names_specs.Member) → AreCounts self.now ms
+            → result ≡ has_more (is_namesake person.now) ms (member_view member.now) }
     {
-        member.namesakes(person) < self.namesakes(person)
+        self.own_namesakes(member, person) < self.namesakes_within(None, person)
     }
 
-    /// Whether more people are namesakes of a person and have the same initials than in a cite.
+    /// Whether a person has a namesake with the same initials in a cite that a cite is compared with.
     pub(crate) fn has_alike_namesake(&self, member: &Member, person: &'m CitedPerson) -> bool
-        ensures { (all : List Named) → AreCounts self.now all
-            → result ≡ has_more (is_alike_namesake person.now) all (member_view member.now) }
+        ensures { (ms : List names_specs.Member) → AreCounts self.now ms
+            → result ≡ has_more (is_alike_namesake person.now) ms (member_view member.now) }
     {
-        member.alike_namesakes(person) < self.alike_namesakes(person)
+        self.own_alike_namesakes(member, person) < self.alike_namesakes_within(None, person)
     }
 
-    /// How many people are namesakes of a person: those of the same family name without those of the same name.
-    fn namesakes(&self, person: &'m CitedPerson) -> usize
-        ensures { (all : List Named) → AreCounts self.now all
-            → result ≡ count_by (is_namesake person.now) all }
+    /// How many namesakes a person has in the cites that a cite is not compared with.
+    fn own_namesakes(&self, member: &Member, person: &'m CitedPerson) -> usize
+        ensures { (ms : List names_specs.Member) → AreCounts self.now ms → result
+            ≡ count_by (is_namesake person.now) (own_people ms (member_view member.now)) }
+    {
+        if member.is_by_entry() {
+            self.namesakes_within(Some(member.cite.cite.entry), person)
+        } else {
+            member.namesakes(person)
+        }
+    }
+
+    /// How many namesakes with the same initials a person has in the cites that a cite is not compared with.
+    fn own_alike_namesakes(&self, member: &Member, person: &'m CitedPerson) -> usize
+        ensures { (ms : List names_specs.Member) → AreCounts self.now ms → result
+            ≡ count_by (is_alike_namesake person.now) (own_people ms (member_view member.now)) }
+    {
+        if member.is_by_entry() {
+            self.alike_namesakes_within(Some(member.cite.cite.entry), person)
+        } else {
+            member.alike_namesakes(person)
+        }
+    }
+
+    /// How many people, of all or of an entry, are namesakes of a person: those of the same family name without those of the same name.
+    pub(crate) fn namesakes_within(&self, scope: Option<usize>, person: &'m CitedPerson) -> usize
+        ensures { (ms : List names_specs.Member) → AreCounts self.now ms
+            → result ≡ count_by (is_namesake person.now) (people_within scope ms) }
     {
         self.families
-            .count(&person.part(NamePart::Family))
-            .saturating_sub(self.same_people(person))
+            .count(&(scope, person.part(NamePart::Family)))
+            .saturating_sub(self.same_people(scope, person))
     }
 
-    /// How many people are namesakes of a person and have the same initials.
-    fn alike_namesakes(&self, person: &'m CitedPerson) -> usize
-        ensures { (all : List Named) → AreCounts self.now all
-            → result ≡ count_by (is_alike_namesake person.now) all }
+    /// How many people, of all or of an entry, are namesakes of a person and have the same initials.
+    pub(crate) fn alike_namesakes_within(
+        &self,
+        scope: Option<usize>,
+        person: &'m CitedPerson,
+    ) -> usize
+        ensures { (ms : List names_specs.Member) → AreCounts self.now ms
+            → result ≡ count_by (is_alike_namesake person.now) (people_within scope ms) }
     {
         self.initialed
-            .count(&person.part(NamePart::FamilyAndInitials))
-            .saturating_sub(self.same_people(person))
+            .count(&(scope, person.part(NamePart::FamilyAndInitials)))
+            .saturating_sub(self.same_people(scope, person))
     }
 
-    /// How many people have the name of a person.
-    fn same_people(&self, person: &'m CitedPerson) -> usize
-        ensures { (all : List Named) → AreCounts self.now all
-            → result ≡ count_by (is_person person.now) all }
+    /// How many people, of all or of an entry, have the name of a person.
+    fn same_people(&self, scope: Option<usize>, person: &'m CitedPerson) -> usize
+        ensures { (ms : List names_specs.Member) → AreCounts self.now ms
+            → result ≡ count_by (is_person person.now) (people_within scope ms) }
     {
-        self.whole.count(&person.part(NamePart::Whole))
+        self.whole.count(&(scope, person.part(NamePart::Whole)))
     }
 }
 
@@ -100,39 +130,70 @@ fn counts_by<'m>(
     alloc: Global,
     part: NamePart,
     members: &'m [Member],
-) -> Result<Tally<ComparedName<'m>>, AllocError>
-    ensures { IfOk result (λ t. IsCount part t (all_people (members_view members.now))) }
+) -> Result<Tally<(Option<usize>, ComparedName<'m>)>, AllocError>
+    ensures { IfOk result (λ t. IsCount part t (members_view members.now)) }
 {
     let names = names_by(alloc, part, members)?;
     Tally::new(alloc, names.as_slice())
 }
 
-/// A part of the name of each person of all cites.
+/// A part of the name of each person of all cites, among all people and, where that is asked for, among those of the entry.
 fn names_by<'m>(
     alloc: Global,
     part: NamePart,
     members: &'m [Member],
-) -> Result<Vec<ComparedName<'m>>, AllocError>
-    ensures { IfOk result (λ names. map compared_name_view names.items
-        ≡ map (part_of part) (all_people (members_view members.now))) }
+) -> Result<Vec<(Option<usize>, ComparedName<'m>)>, AllocError>
+    ensures { IfOk result (λ names. map scoped_view names.items
+        ≡ flat_map (scoped_parts part) (members_view members.now)) }
 {
     let mut names = Vec::new(alloc);
     for member in members {
-        push_names(&mut names, part, member.people.as_slice())?;
+        push_parts(&mut names, part, member)?;
     }
     Ok(names)
 }
 
-fn push_names<'m>(
-    names: &mut Vec<ComparedName<'m>>,
+/// Appends a part of the name of each person of a cite.
+fn push_parts<'m>(
+    names: &mut Vec<(Option<usize>, ComparedName<'m>)>,
     part: NamePart,
+    member: &'m Member,
+) -> Result<(), AllocError>
+    ensures { OnOk result (map scoped_view names.new.items
+        ≡ map scoped_view names.old.items ++ scoped_parts part (member_view member.now)) }
+{
+    push_names(names, part, None, member.people.as_slice())?;
+    push_own_parts(names, part, member)
+}
+
+/// Appends them among those of the entry, where the cite's style asks for that.
+fn push_own_parts<'m>(
+    names: &mut Vec<(Option<usize>, ComparedName<'m>)>,
+    part: NamePart,
+    member: &'m Member,
+) -> Result<(), AllocError>
+    ensures { OnOk result (map scoped_view names.new.items
+        ≡ map scoped_view names.old.items ++ own_parts part (member_view member.now)) }
+{
+    if member.is_by_entry() {
+        let entry = member.cite.cite.entry;
+        push_names(names, part, Some(entry), member.people.as_slice())
+    } else {
+        Ok(())
+    }
+}
+
+fn push_names<'m>(
+    names: &mut Vec<(Option<usize>, ComparedName<'m>)>,
+    part: NamePart,
+    scope: Option<usize>,
     people: &'m [CitedPerson],
 ) -> Result<(), AllocError>
-    ensures { OnOk result (map compared_name_view names.new.items
-        ≡ map compared_name_view names.old.items ++ map (part_of part) people.now) }
+    ensures { OnOk result (map scoped_view names.new.items
+        ≡ map scoped_view names.old.items ++ parts_within part scope people.now) }
 {
     for person in people {
-        names.push(person.part(part))?;
+        names.push((scope, person.part(part)))?;
     }
     Ok(())
 }

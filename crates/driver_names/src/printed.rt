@@ -26,12 +26,20 @@ use std::mem;
 pub struct Candidate {
     /// The index of its entry among all that are cited, from zero.
     pub entry: usize,
+    /// The number of its entry, from zero.
+    pub number: usize,
     /// Whether its entry has a date.
     pub has_date: bool,
     /// By which rule its style compares given names, where it adds them.
     pub rule: Option<DisambiguationRule>,
     /// Whether its style adds year suffixes.
     pub adds_suffix: bool,
+    /// Whether the first of alike cites takes the branch for these too.
+    pub first_chooses_too: bool,
+    /// Whether its names are compared with those of other entries alone.
+    pub same_entry_is_no_rival: bool,
+    /// Whether year suffixes are given in the order of the numbers of entries.
+    pub suffixes_by_number: bool,
     /// Whether the test `disambiguate` was evaluated when it was printed undisambiguated.
     pub met_disambiguate: bool,
     /// How much of its first names is printed undisambiguated.
@@ -39,15 +47,16 @@ pub struct Candidate {
 }
 
 impl Candidate {
-    /// A cite of the entry at an index, by what it printed undisambiguated.
+    /// A cite of the entry at an index, which has a number, by what it printed undisambiguated.
     pub fn new(
         entry: usize,
+        number: usize,
         has_date: bool,
         style: &Citation,
         met_disambiguate: bool,
         names: Option<NameDisambiguationProperties>,
     ) -> Candidate
-        ensures { (printed : cites.DisambiguateState → Children) (state : cites.DisambiguateState) (t : Children) → printed_as_view result state t ≡ printed_as (record { entry = entry; has_date = has_date; style = citation_layout_view style.now; printed = printed; met_disambiguate = met_disambiguate; names = names }) state t }
+        ensures { (printed : cites.DisambiguateState → Children) (state : cites.DisambiguateState) (t : Children) → printed_as_view result state t ≡ printed_as (record { entry = entry; number = number; has_date = has_date; style = citation_layout_view style.now; printed = printed; met_disambiguate = met_disambiguate; names = names }) state t }
     {
         let rule = if style.add_givenname {
             Some(style.givenname_rule)
@@ -56,9 +65,13 @@ impl Candidate {
         };
         Candidate {
             entry,
+            number,
             has_date,
             rule,
             adds_suffix: style.add_year_suffix,
+            first_chooses_too: style.first_chooses_too,
+            same_entry_is_no_rival: style.same_entry_is_no_rival,
+            suffixes_by_number: style.suffixes_by_number,
             met_disambiguate,
             names,
         }

@@ -1,4 +1,3 @@
-pub mod MappedSorts
 pub mod OrderedKeys
 pub mod RequestsSorted
 mod NumbersFound

@@ -6,7 +6,7 @@ use Rattle.std.specs.declared.cmp.Ordering.{Ordering}
 use Rattle.sorting.specs.Sorted.{sorted}
 use Rattle.rendering_sorting.specs.Keys.{Part, key_cmp}
 use Rattle.driver_order.specs.Ordered.{ordered_by}
-use Rattle.driver_order.proofs.MappedSorts.{map-sorted, sorted-stays}
+use Rattle.sorting.proofs.MappedSorts.{map-sorted, sorted-stays}
 
 -- values with keys are in the order of what they stand for
 pub sorted_as : {V X T : Type 0} (view : V → List Part × T) (cmp : V → V → Ordering) → ((a b : V) → cmp a b ≡ key_cmp (view a).0 (view b).0)

@@ -1,5 +1,5 @@
 -- The keys of entries.
-use Rattle.std.specs.Prelude.{ℕ, Bool, true, false, List, map, Option, None}
+use Rattle.std.specs.Prelude.{ℕ, Bool, true, false, List, [], map, Option, None}
 use Rattle.std.specs.Option.{option_map_or}
 use Rattle.rendering.specs.Purposes.{citation_options, context_of}
 use Rattle.rendering_context.specs.Cites.{CiteProperties, SpecificLocator, undisambiguated}
@@ -26,6 +26,7 @@ sorting_properties number locator = record {
   ibid = ibids.Different;
   disambiguation = undisambiguated;
   identifier_usage = usages.None;
+  first_names = [];
 }
 
 -- the options for names in the bibliography, over those of the style; where there is no bibliography, those of the style

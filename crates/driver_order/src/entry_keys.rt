@@ -118,5 +118,6 @@ fn sorting_properties<'a>(
         ibid: IbidState::Different,
         disambiguation: DisambiguateState::None,
         identifier_usage: IdentifierUsage::None,
+        first_names: None,
     }
 }

@@ -1,14 +1,11 @@
 -- The laws of parts, classes and blocks.
-use Rattle.std.proofs.Common.{◌≡◌, ℕ, ◌+◌, Bool, true, false, true≢false, cond, not, ◌&&◌, List, [], ◌∷◌, ◌++◌, length, map, take, drop, filter, flat_map, nat_eq, Option, Some, None, refl, sym, ap, ◌∙◌}
-use Rattle.std.specs.Cmp.{IsEquivalence, IsPartialEquivalence, both_ways, partial_equiv_from_equiv}
+use Rattle.std.proofs.Common.{◌≡◌, ℕ, ◌+◌, Bool, true, false, true≢false, cond, not, ◌&&◌, List, [], ◌∷◌, ◌++◌, length, map, take, drop, filter, flat_map, nat_eq, None, refl, sym, ap, ◌∙◌}
+use Rattle.std.specs.Cmp.{IsEquivalence, IsPartialEquivalence, partial_equiv_from_equiv}
 use Rattle.std.specs.Cmp.Lexicographic.{on_texts_equal}
 use Rattle.std.specs.List.{enumerate_from, list_any}
 use Rattle.std.proofs.lemmas.Bool.{and_from, and_parts, eqb-true, not_from_true, or_from, or_left, or_parts, or_right}
 use Rattle.std.proofs.lemmas.Cmp.{nat_eq_equiv}
 use Rattle.std.proofs.lemmas.List.Elements.{filter_agree}
-use Rattle.rendering_tree.specs.Same.{is_element}
-use Rattle.rendering_tree.specs.Trees.{Element}
-use Rattle.rendering_tree.proofs.SameDecided.{elements_are_one}
 use Rattle.rendering_context.specs.Cites.{allows_suffix}
 use Rattle.rendering_style.specs.Styles.{Citation}
 use Rattle.driver_names.specs.Prints.{Printed, prints_date}
@@ -16,8 +13,9 @@ use Rattle.driver_disambiguation.specs.Classes.{is_alike, is_mixed, parts}
 use Rattle.driver_disambiguation.specs.Gathered.{given_to_classes}
 use Rattle.driver_disambiguation.proofs.Classing.{more_than_one}
 use Rattle.driver_disambiguation.proofs.Lists.{any-map}
-use Rattle.driver_blocks.specs.Blocks.{Gathered, are_same_names, blocks, gathered, gathered_at, gathers, is_of_block}
+use Rattle.driver_blocks.specs.Blocks.{Gathered, blocks, gathered, gathered_at, gathers, is_of_block}
 use Rattle.driver_blocks.specs.Collapsing.{collapsed}
+use Rattle.driver_blocks.proofs.GatheredSteps.{one_block}
 use Rattle.driver_partitions.specs.Parts.{go_together}
 use Rattle.driver_partitions.specs.Classes.{are_of_one_block, are_of_two_entries}
 use Rattle.driver_partitions.specs.Laws.{BlocksAreParts, CitationsHaveBlocks, ClassesAreParts, GatheredAreThoseOfOne, IndicesAreInOnePart, PartsAreThoseOfTwo, RoundsGiveToClasses}
@@ -75,30 +73,16 @@ classes_law = λ ss cs.
       λ are. are.2 ∙ ap (filter are_of_two_entries) ((parts_of_two Printed is_alike xs are.0 alike_texts).1 are.1) ∙ sym agree,
     )
 
--- the same names
-names_symm : (m n : Option Element) → are_same_names m n ≡ are_same_names n m
-names_symm (Some e) (Some f) =
-    both_ways (is_element e f) (is_element f e) (λ h. (elements_are_one f e).1 (sym ((elements_are_one e f).0 h))) (λ h. (elements_are_one e f).1 (sym ((elements_are_one f e).0 h)))
-names_symm (Some e) None = refl
-names_symm None (Some f) = refl
-names_symm None None = refl
-
-names_trans : (m n o : Option Element) → are_same_names m n ≡ true → are_same_names n o ≡ true → are_same_names m o ≡ true
-names_trans (Some e) (Some f) (Some g) p q = (elements_are_one e g).1 ((elements_are_one e f).0 p ∙ (elements_are_one f g).0 q)
-names_trans (Some e) (Some f) None p q = q
-names_trans (Some e) None o p q = absurd (true≢false (sym p))
-names_trans None (Some f) o p q = absurd (true≢false (sym p))
-names_trans None None o p q = absurd (true≢false (sym p))
-
 module _ {X : Type 0} where
-  one_block : (c : Citation) → IsPartialEquivalence (are_of_one_block {X = X} c)
-  one_block c = record { symm = λ x y. ap (λ b. gathers c && b) (names_symm x.names y.names); trans = trans }
+  one_block_of : (c : Citation) → IsPartialEquivalence (are_of_one_block {X = X} c)
+  one_block_of c = record { symm = λ x y. ap (λ b. gathers c && b) ((one_block c.gathers_by_text).symm x y); trans = trans }
     where
       trans : (x y z : Gathered X) → are_of_one_block c x y ≡ true → are_of_one_block c y z ≡ true → are_of_one_block c x z ≡ true
       trans x y z p q =
-          let a = and_parts (gathers c) (is_of_block x y) p in
-          let b = and_parts (gathers c) (is_of_block y z) q in
-          and_from (gathers c) (is_of_block x z) a.0 (names_trans x.names y.names z.names a.1 b.1)
+          let same = is_of_block c.gathers_by_text in
+          let a = and_parts (gathers c) (same x y) p in
+          let b = and_parts (gathers c) (same y z) q in
+          and_from (gathers c) (same x z) a.0 ((one_block c.gathers_by_text).trans x y z a.1 b.1)
 
   none_same : (xs : List (Gathered X)) → list_any (λ x. false) xs ≡ false
   none_same [] = refl
@@ -118,13 +102,13 @@ module _ {X : Type 0} where
   blocks_gathered : (c : Citation) (xs : List (Gathered X)) → blocks c xs ≡ gathered (are_of_one_block c) xs
   blocks_gathered c xs = by_style (gathers c)
     where
-      by_style : (b : Bool) → cond b (gathered is_of_block xs) (map (λ x. x ∷ []) xs) ≡ gathered (λ x y. b && is_of_block x y) xs
+      by_style : (b : Bool) → cond b (gathered (is_of_block c.gathers_by_text) xs) (map (λ x. x ∷ []) xs) ≡ gathered (λ x y. b && is_of_block c.gathers_by_text x y) xs
       by_style true = refl
       by_style false = sym (alone xs 0 xs)
 
 pub blocks_law : (X : Type 0) → BlocksAreParts X
 blocks_law X = λ c xs bs.
-    let law = gathered_of_one (Gathered X) (are_of_one_block c) xs bs (one_block c) in
+    let law = gathered_of_one (Gathered X) (are_of_one_block c) xs bs (one_block_of c) in
     (λ is. law.0 (is ∙ blocks_gathered c xs), λ are. law.1 are ∙ sym (blocks_gathered c xs))
 
 pub rounds_law : RoundsGiveToClasses

@@ -19,9 +19,9 @@ abbrev pub AreClasses : List Printed → List (List Printed) → Type 0
 AreClasses ss cs = (ps : List (List Printed)) × ArePartsOf is_alike 1 (filter (λ s. allows_suffix s.state) ss) ps × (cs ≡ filter are_of_two_entries ps)
 
 -- whether two cites stand in one block: their style gathers cites, and the names elements that they print are the same, with the people
--- that they name and do not show; a cite without one goes with no other
+-- that they name and do not show, or, where it gathers by the text, print the same; a cite without one goes with no other
 abbrev pub are_of_one_block : {X : Type 0} → Citation → Gathered X → Gathered X → Bool
-are_of_one_block c x y = gathers c && is_of_block x y
+are_of_one_block c x y = gathers c && is_of_block c.gathers_by_text x y
 
 -- The blocks of a citation: its cites, hidden ones among them, in parts, in the order of their first cites. A cite that goes with no other
 -- is a block by itself.

@@ -8,7 +8,8 @@ use Rattle.rendering_context.specs.Contexts.{StyleContext}
 use Rattle.driver_requests.specs.CitedEntries.{once, index_among, indices_among}
 use Rattle.driver_requests.specs.Requests.{Item, Request, SpecificLocator, own, written, is_payload, is_specific_locator}
 use Rattle.driver_requests.specs.Cites.{cites_of}
-use Rattle.driver_requests.specs.Positions.{ibid_after, counts_at_first, with_previous}
+use Rattle.std.specs.List.{enumerate_from}
+use Rattle.driver_requests.specs.Positions.{ibid_after, ibid_at, counts_at_first, with_previous}
 use Rattle.driver_requests.specs.Order.{ordered, number_in, numbers_overflow}
 use Rattle.rendering_taxonomy.specs.declared.cite.IbidState.{IbidState}
 use Rattle.rendering_taxonomy.specs.declared.cite.IbidState.TheVariants as ibids
@@ -76,6 +77,22 @@ passed_over a = refl
 hidden : (a : Answers) → positions ((record (item a 0 None) { is_hidden = true } ∷ item a 0 None ∷ []) ∷ []) ≡ (ibids.Different ∷ ibids.Different ∷ []) ∷ []
 unfolding positions alone item
 hidden a = refl
+
+-- an item and its index in its request
+placed : List (Item ℕ) → List (ℕ × Item ℕ)
+placed items = enumerate_from 0 items
+
+-- the ibid state of each after the one before it, where ibid follows requests of one item
+after_one : List (List (Item ℕ)) → List (List IbidState)
+after_one items = map (map (λ p. ibid_at nat_eq counts_at_first true p.1.0 p.0 p.1.1)) (with_previous None (map placed items))
+
+-- after a request of several items none is repeated, and within one each may be
+several :
+    (a : Answers)
+    → after_one ((item a 0 None ∷ item a 1 None ∷ []) ∷ (item a 1 None ∷ item a 1 None ∷ []) ∷ (item a 1 None ∷ []) ∷ (item a 1 None ∷ []) ∷ [])
+    ≡ (ibids.Different ∷ ibids.Different ∷ []) ∷ (ibids.Different ∷ ibids.Ibid ∷ []) ∷ (ibids.Different ∷ []) ∷ (ibids.Ibid ∷ []) ∷ []
+unfolding after_one placed item
+several a = refl
 
 -- a style in which so many requests are near
 distant : StyleContext → ℕ → StyleContext

@@ -4,6 +4,7 @@ use Rattle.std.specs.List.{list_any, enumerate_from}
 use Rattle.std.specs.Option.{option_map, unwrap_or}
 use Rattle.rendering_context.specs.Cites.{CiteProperties, DisambiguateState}
 use Rattle.rendering_context.specs.Contexts.{StyleContext}
+use Rattle.rendering_people.specs.Properties.{Properties}
 use Rattle.driver_requests.specs.Requests.{Item, Request, cites_entry}
 use Rattle.rendering_taxonomy.specs.declared.cite.IbidState.{IbidState}
 use Rattle.rendering_taxonomy.specs.declared.cite.IdentifierUsage.TheVariants as usages
@@ -65,11 +66,13 @@ cites_after earlier (r ∷ rs) = map (cite_at earlier r) (enumerate_from 0 r.ite
 abbrev pub cites_of : {P : Type 0} → List (Request P) → List (List (Cite P))
 cites_of rs = cites_after [] rs
 
--- A cite with the number of its entry, from zero, and its ibid state after the cite before it.
+-- A cite with the number of its entry, from zero, its ibid state after the cite before it, and how much of its first names is printed
+-- before cites are compared.
 pub record Numbered (P : Type 0) : Type 0 where
   pub cite : Cite P
   pub number : ℕ
   pub ibid : IbidState
+  pub first_names : Properties
 
 -- the index of the entry that a cite is of
 abbrev pub entry_of : {P : Type 0} → Cite P → ℕ
@@ -88,4 +91,5 @@ properties_of p state = record {
   ibid = p.ibid;
   disambiguation = state;
   identifier_usage = usages.None;
+  first_names = p.first_names;
 }

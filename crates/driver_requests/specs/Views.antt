@@ -15,6 +15,7 @@ use Rattle.rendering_taxonomy.specs.declared.cite.CitePurpose.{CitePurpose}
 use Rattle.driver_requests.specs.Requests as requests
 use Rattle.driver_requests.specs.Requests.{Item, Request}
 use Rattle.driver_requests.specs.declared.item.CitationItem.{CitationItem}
+use Rattle.driver_requests.specs.declared.position.LastCite.{LastCite}
 use Rattle.driver_requests.specs.declared.request.CitationRequest.{CitationRequest}
 
 -- a text, or what the caller prints by itself
@@ -56,6 +57,10 @@ item_from index answers i = record {
 -- an item, where each entry has an index and answers
 abbrev pub item_view : {T P : Type 0} → (T → ℕ) → (T → Answers) → CitationItem T P → Item P
 item_view index answers i = item_from index answers (parts_of i)
+
+-- the index of the last cite in its request, and its item
+abbrev pub last_view : {T P : Type 0} → (T → Answers) → LastCite T P → ℕ × Item P
+last_view answers l = (l.index, item_view (λ e. l.entry) answers l.item.now)
 
 -- the style of a request with the language that is asked for, and the files with locales
 abbrev pub context_of : {T P : Type 0} → CitationRequest T P → StyleContext

@@ -21,6 +21,6 @@ pub use facts::cites;
 pub use history::CiteFacts;
 pub use item::CitationItem;
 pub use order::{numbers, ordered};
-pub use position::ibid_after;
+pub use position::{LastCite, ibid_of};
 pub use request::CitationRequest;
 pub use suffix::{Origin, Suffix};

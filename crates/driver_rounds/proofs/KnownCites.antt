@@ -16,7 +16,7 @@ use Rattle.driver_requests.specs.Errors.{Overflow, overflow}
 use Rattle.driver_requests.specs.Notes.{facts_of}
 use Rattle.driver_requests.specs.Order.{cited, number_in, numbers_overflow, ordered}
 use Rattle.driver_requests.specs.Indices.{runs}
-use Rattle.driver_requests.specs.Positions.{counts_at_first, ibid_after, with_previous}
+use Rattle.driver_requests.specs.Positions.{counts_at_first, ibid_of, place_of, with_previous}
 use Rattle.driver_requests.specs.Requests.{Item, Request}
 use Rattle.driver_requests.specs.HistoryViews.{facts_by_request_view, facts_view}
 use Rattle.driver_requests.specs.Views.{context_of, entries_in, entries_of, entry_of_item, item_view, request_view}
@@ -25,9 +25,9 @@ use Rattle.driver_requests.specs.declared.item.CitationItem.{CitationItem}
 use Rattle.driver_requests.specs.declared.request.CitationRequest.{CitationRequest}
 use Rattle.driver_requests.specs.declared.history.CiteFacts.{CiteFacts}
 use Rattle.driver_rounds.specs.Documents.{Document, number_of, order_in}
-use Rattle.driver_rounds.specs.OrderAndNumbers.{known_in, known_of, numbered_in}
+use Rattle.driver_rounds.specs.OrderAndNumbers.{known_in, known_of}
 use Rattle.driver_rounds.specs.Numbering.{all_cites_view, cite_view, cites_view, last_after, numbering, numbering_all}
-use Rattle.driver_rounds.specs.FirstPrints.{numbered_after}
+use Rattle.driver_rounds.specs.FirstPrints.{numbered_after, numbered_in}
 use Rattle.driver_rounds.specs.Views.{document_view, all_numbered_cites_view}
 use Rattle.driver_rounds.specs.declared.cite.NumberedCite.{NumberedCite}
 use Rattle.laws.specs.Results.{EndsWith}
@@ -93,27 +93,27 @@ module _ {T P : Type 0} (entry_index : T → ℕ) (answers : T → Answers) wher
   facts_long rs fs known = facts_lengths [] rs fs known
 
 module _ {P : Type 0} (same : P → P → Bool) where
-  run_agrees : (count : ℕ) (m n : ℕ → ℕ) → ((p : ℕ) → p < count → m p ≡ n p) → (last : Option (Item P)) (cs : List (Cite P)) → All (λ (c : Cite P). entry_of c < count) cs → numbering same m last cs ≡ numbering same n last cs
+  run_agrees : (count : ℕ) (m n : ℕ → ℕ) → ((p : ℕ) → p < count → m p ≡ n p) → (last : Option (ℕ × Item P)) (cs : List (Cite P)) → All (λ (c : Cite P). entry_of c < count) cs → numbering same m last cs ≡ numbering same n last cs
   run_agrees count m n e last [] within = refl
   run_agrees count m n e last (c ∷ cs) within =
       let here = e (entry_of c) (All-head (λ (b : Cite P). entry_of b < count) c cs within) in
-      λ k. record { cite = c; number = here k; ibid = ibid_after same counts_at_first last c.item } ∷ run_agrees count m n e (Some c.item) cs (All-tail (λ (b : Cite P). entry_of b < count) c cs within) k
+      λ k. record { cite = c; number = here k; ibid = ibid_of same counts_at_first last c; first_names = [] } ∷ run_agrees count m n e (Some (place_of c)) cs (All-tail (λ (b : Cite P). entry_of b < count) c cs within) k
 
-  all_agree : (count : ℕ) (m n : ℕ → ℕ) → ((p : ℕ) → p < count → m p ≡ n p) → (last : Option (Item P)) (css : List (List (Cite P))) → All (All (λ (c : Cite P). entry_of c < count)) css → numbering_all same m last css ≡ numbering_all same n last css
+  all_agree : (count : ℕ) (m n : ℕ → ℕ) → ((p : ℕ) → p < count → m p ≡ n p) → (last : Option (ℕ × Item P)) (css : List (List (Cite P))) → All (All (λ (c : Cite P). entry_of c < count)) css → numbering_all same m last css ≡ numbering_all same n last css
   all_agree count m n e last [] within = refl
   all_agree count m n e last (cs ∷ css) within =
       ap₂ (λ ns nss. ns ∷ nss) (run_agrees count m n e last cs (All-head (All (λ (b : Cite P). entry_of b < count)) cs css within)) (all_agree count m n e (last_after last cs) css (All-tail (All (λ (b : Cite P). entry_of b < count)) cs css within))
 
-  run_previous : (d : Document P) (last : Option (Cite P)) (cs : List (Cite P)) → numbering same (number_of d) (option_map (λ (l : Cite P). l.item) last) cs ≡ map (numbered_after same d) (zip (last ∷ map (λ c. Some c) cs) cs)
+  run_previous : (d : Document P) (last : Option (Cite P)) (cs : List (Cite P)) → numbering same (number_of d) (option_map place_of last) cs ≡ map (numbered_after same d) (zip (last ∷ map (λ c. Some c) cs) cs)
   run_previous d last [] = refl
   run_previous d last (c ∷ cs) = ap (λ ns. numbered_after same d (last, c) ∷ ns) (run_previous d (Some c) cs)
 
-  last_previous : (last : Option (Cite P)) (cs : List (Cite P)) → last_after (option_map (λ (l : Cite P). l.item) last) cs ≡ option_map (λ (l : Cite P). l.item) (last_or last cs)
+  last_previous : (last : Option (Cite P)) (cs : List (Cite P)) → last_after (option_map place_of last) cs ≡ option_map place_of (last_or last cs)
   last_previous last [] = refl
   last_previous last (c ∷ cs) = last_previous (Some c) cs
 
   -- cites that are numbered one after the other are numbered each with the one before it
-  pub all_previous : (d : Document P) (last : Option (Cite P)) (css : List (List (Cite P))) → numbering_all same (number_of d) (option_map (λ (l : Cite P). l.item) last) css ≡ map (map (numbered_after same d)) (with_previous last css)
+  pub all_previous : (d : Document P) (last : Option (Cite P)) (css : List (List (Cite P))) → numbering_all same (number_of d) (option_map place_of last) css ≡ map (map (numbered_after same d)) (with_previous last css)
   all_previous d last [] = refl
   all_previous d last (cs ∷ css) =
       ap₂ (λ ns l. ns ∷ numbering_all same (number_of d) l css) (run_previous d last cs) (last_previous last cs) ∙ ap (λ nss. map (numbered_after same d) (zip (last ∷ map (λ c. Some c) cs) cs) ∷ nss) (all_previous d (last_or last cs) css)

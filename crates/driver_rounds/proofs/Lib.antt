@@ -10,3 +10,4 @@ pub mod RoundSteps
 pub mod RoundsCases
 pub mod RoundsNames
 pub mod RunsSteps
+pub mod NamingSteps

@@ -18,8 +18,8 @@ use Rattle.driver_disambiguation.specs.States.{States, is_beyond, is_given_to, j
 use Rattle.driver_disambiguation.specs.Rounds.{Disambiguation, after_round, round_given}
 use Rattle.driver_disambiguation.specs.Views.{unless_beyond}
 use Rattle.driver_rounds.specs.Rounding.{again_by, again_if, are_again, unless_overflow}
-use Rattle.driver_rounds.specs.FirstPrints.{candidate, first_print}
-use Rattle.driver_rounds.specs.Views.{printed_by_states, printed_undisambiguated}
+use Rattle.driver_rounds.specs.FirstPrints.{candidate, first_print, printed_undisambiguated}
+use Rattle.driver_rounds.specs.Views.{printed_by_states}
 
 -- the first member passes or not
 none_if : {X : Type 0} (b more : Bool) (x : X) (xs : List X) → (b || more) ≡ false → (more ≡ false → xs ≡ []) → cond b (x ∷ xs) xs ≡ []

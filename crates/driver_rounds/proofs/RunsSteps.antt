@@ -1,6 +1,6 @@
 -- Cites of requests one after the other, one after the other.
-use Rattle.std.proofs.Common.{◌≡◌, ℕ, suc, ◌+◌, ◌<◌, ◌≤◌, All, List, [], ◌∷◌, ◌++◌, append_assoc, append-nil, length, length-append, map, drop, get_or, ◌-◌, ◌^◌, false, None, subst, refl, sym, ap, ◌∙◌, arith, Vec}
-use Rattle.std.proofs.lemmas.List.{drop_all, drop_more, get_or_default, get_or-map, length-map, map-append}
+use Rattle.std.proofs.Common.{◌≡◌, ℕ, suc, ◌+◌, ◌<◌, ◌≤◌, All, List, [], ◌∷◌, ◌++◌, append_assoc, append-nil, length, length-append, map, drop, get_or, ◌-◌, ◌^◌, subst, refl, sym, ap, ◌∙◌, arith, Vec}
+use Rattle.std.proofs.lemmas.List.{drop_all, drop_more, get_or-map, length-map, map-append}
 use Rattle.std.proofs.lemmas.List.Elements.{All-append, All-cons, All-head, All-nil, All-tail}
 use Rattle.std.proofs.Math.Nat.{min-le_left}
 use Rattle.laws.specs.Counts.{next_count}
@@ -14,7 +14,6 @@ use Rattle.driver_rounds.specs.Rounding.{AreWithin}
 use Rattle.driver_rounds.specs.FirstPrints.{flattened}
 use Rattle.driver_rounds.specs.Views.{numbered_view, numbered_cites_view, all_numbered_cites_view}
 use Rattle.driver_rounds.specs.declared.cite.NumberedCite.{NumberedCite}
-use Rattle.rendering_taxonomy.specs.declared.cite.IbidState.TheVariants as ibids
 
 -- what two lists say alike of all members they say of those at one index
 pub agree_at : {X Y Z : Type 0} (f : X → Z) (g : Y → Z) (xs : List X) (ys : List Y) (n : ℕ) (x : X) (y : Y) → map f xs ≡ map g ys → n < length xs → n < length ys → x ≡ get_or xs n x → y ≡ get_or ys n y → f x ≡ g y
@@ -48,10 +47,6 @@ counts_on here more rest now new all is h le =
 pub one_counted : (now new : ℕ) → new ≡ next_count now → new ≤ now + 1
 one_counted now new e = let P : ℕ → Type 0 = λ n. n ≤ now + 1 in subst P (sym e) (min-le_left (now + 1) (2 ^ 64 - 1))
 
--- what stands past the end of a run
-abbrev pub no_cite : NumberedCite
-no_cite = record { entry = 0; index = 0; note_number = None; facts = record { first_note_number = None; is_near_note = false; is_first = false }; number = 0; ibid = ibids.Different }
-
 -- there is a run for each request
 pub runs_match : {T P A : Type 0} (runs : List (Vec NumberedCite A)) (requests : List (CitationRequest T P)) → map (λ (v : Vec NumberedCite A). length v.items) runs ≡ map (λ (r : CitationRequest T P). length r.items.items) requests
     → length runs ≡ length requests
@@ -77,30 +72,30 @@ module _ {T P : Type 0} (answers : T → Answers) where
     run_done n le = ap (λ is. numbered_cites_view answers x is (drop n run)) (drop_all n items le)
 
     -- one cite more
-    pub run_more : (y : StyleContext) (given : List (CitationItem T P)) (n : ℕ) (i : CitationItem T P) → y ≡ x → given ≡ items → n < length given → length run ≡ length items → i ≡ get_or given n i
-        → numbered_cites_view answers x (drop n items) (drop n run) ≡ (numbered_view answers y i (get_or run n no_cite) ∷ []) ++ numbered_cites_view answers x (drop (n + 1) items) (drop (n + 1) run)
-    run_more y given n i same list less many is =
+    pub run_more : (y : StyleContext) (given : List (CitationItem T P)) (n : ℕ) (i : CitationItem T P) (k : NumberedCite) → y ≡ x → given ≡ items → n < length given → length run ≡ length items → i ≡ get_or given n i → k ≡ get_or run n k
+        → numbered_cites_view answers x (drop n items) (drop n run) ≡ (numbered_view answers y i k ∷ []) ++ numbered_cites_view answers x (drop (n + 1) items) (drop (n + 1) run)
+    run_more y given n i k same list less many is also =
         let below : n < length items = omega (arith, less, ap length list) in
-        run_step n i (get_or run n no_cite) below (omega (arith, below, many)) (is ∙ ap (λ is. get_or is n i) list) (get_or_default run n no_cite (get_or run n no_cite) (omega (arith, below, many)))
-        ∙ ap (λ z. (numbered_view answers z i (get_or run n no_cite) ∷ []) ++ numbered_cites_view answers x (drop (n + 1) items) (drop (n + 1) run)) (sym same)
+        run_step n i k below (omega (arith, below, many)) (is ∙ ap (λ is. get_or is n i) list) also
+        ∙ ap (λ z. (numbered_view answers z i k ∷ []) ++ numbered_cites_view answers x (drop (n + 1) items) (drop (n + 1) run)) (sym same)
 
     -- what is made of each cite of a run goes on with one cite more
-    pub run_goes_on : {B : Type 0} (make : Numbered P → B) (y : StyleContext) (given : List (CitationItem T P)) (n : ℕ) (i : CitationItem T P) (now new all : List B)
-        → y ≡ x → given ≡ items → n < length given → length run ≡ length items → i ≡ get_or given n i
-        → now ++ map make (numbered_cites_view answers x (drop n items) (drop n run)) ≡ all → new ≡ now ++ make (numbered_view answers y i (get_or run n no_cite)) ∷ []
+    pub run_goes_on : {B : Type 0} (make : Numbered P → B) (y : StyleContext) (given : List (CitationItem T P)) (n : ℕ) (i : CitationItem T P) (k : NumberedCite) (now new all : List B)
+        → y ≡ x → given ≡ items → n < length given → length run ≡ length items → i ≡ get_or given n i → k ≡ get_or run n k
+        → now ++ map make (numbered_cites_view answers x (drop n items) (drop n run)) ≡ all → new ≡ now ++ make (numbered_view answers y i k) ∷ []
         → new ++ map make (numbered_cites_view answers x (drop (n + 1) items) (drop (n + 1) run)) ≡ all
-    run_goes_on make y given n i now new all same list less many is h e =
-        goes_on make (numbered_view answers y i (get_or run n no_cite) ∷ []) (numbered_cites_view answers x (drop (n + 1) items) (drop (n + 1) run)) (numbered_cites_view answers x (drop n items) (drop n run)) now new all
-        (run_more y given n i same list less many is) h e
+    run_goes_on make y given n i k now new all same list less many is also h e =
+        goes_on make (numbered_view answers y i k ∷ []) (numbered_cites_view answers x (drop (n + 1) items) (drop (n + 1) run)) (numbered_cites_view answers x (drop n items) (drop n run)) now new all
+        (run_more y given n i k same list less many is also) h e
 
     -- a count of one for each cite of a run goes on with one cite more
-    pub run_counts_on : (y : StyleContext) (given : List (CitationItem T P)) (n : ℕ) (i : CitationItem T P) (now new all : ℕ)
-        → y ≡ x → given ≡ items → n < length given → length run ≡ length items → i ≡ get_or given n i
+    pub run_counts_on : (y : StyleContext) (given : List (CitationItem T P)) (n : ℕ) (i : CitationItem T P) (k : NumberedCite) (now new all : ℕ)
+        → y ≡ x → given ≡ items → n < length given → length run ≡ length items → i ≡ get_or given n i → k ≡ get_or run n k
         → now + length (numbered_cites_view answers x (drop n items) (drop n run)) ≤ all → new ≤ now + 1
         → new + length (numbered_cites_view answers x (drop (n + 1) items) (drop (n + 1) run)) ≤ all
-    run_counts_on y given n i now new all same list less many is h le =
-        counts_on (numbered_view answers y i (get_or run n no_cite) ∷ []) (numbered_cites_view answers x (drop (n + 1) items) (drop (n + 1) run)) (numbered_cites_view answers x (drop n items) (drop n run)) now new all
-        (run_more y given n i same list less many is) h le
+    run_counts_on y given n i k now new all same list less many is also h le =
+        counts_on (numbered_view answers y i k ∷ []) (numbered_cites_view answers x (drop (n + 1) items) (drop (n + 1) run)) (numbered_cites_view answers x (drop n items) (drop n run)) now new all
+        (run_more y given n i k same list less many is also) h le
 
     -- past the items all is made
     pub run_ends : {B : Type 0} (make : Numbered P → B) (given : List (CitationItem T P)) (n : ℕ) (now all : List B) → given ≡ items → length given ≤ n

@@ -1,20 +1,25 @@
 -- Cites from their numbers to their states of disambiguation.
-use Rattle.std.specs.Prelude.{ℕ, Bool, false, List, [], ◌∷◌, map, length, is_some, Option, Some, None}
+use Rattle.std.specs.Prelude.{ℕ, Bool, false, List, [], ◌∷◌, map, length, is_some, if◌then◌else◌, Option, Some, None}
 use Rattle.std.specs.List.{list_any, flat_map}
 use Rattle.std.specs.Option.{option_map}
 use Rattle.rendering_entries.specs.Answers.{Answers}
-use Rattle.rendering_context.specs.Cites.{DisambiguateState, undisambiguated}
+use Rattle.rendering_context.specs.Cites.{DisambiguateState, undisambiguated, names_of}
+use Rattle.rendering_people.specs.Properties.{Properties}
 use Rattle.rendering.specs.Purposes.{citation}
 use Rattle.rendering.specs.Purposes as purposes
 use Rattle.driver_requests.specs.Requests.{Request}
 use Rattle.driver_requests.specs.Cites.{Cite, Numbered, cites_of, entry_of, properties_of}
-use Rattle.driver_requests.specs.Positions.{ibid_after, counts_at_first, with_previous}
+use Rattle.driver_requests.specs.Positions.{ibid_of, place_of, counts_at_first, with_previous}
 use Rattle.driver_requests.specs.Order.{cited}
+use Rattle.driver_names.specs.FirstNames.{first_names}
 use Rattle.driver_names.specs.Prints as prints
+use Rattle.driver_names.specs.Prints.{printed_as}
+use Rattle.driver_disambiguation.specs.States.{States, state_of, states_after, undisambiguated_states}
 use Rattle.driver_disambiguation.specs.Rounds.{Disambiguation, disambiguated}
 use Rattle.driver_rounds.specs.Documents.{Document, number_of}
 use Rattle.rendering_taxonomy.specs.declared.cite.CitePurpose.{CitePurpose}
 use Rattle.rendering_taxonomy.specs.declared.cite.CitePurpose.TheVariants as cite_purposes
+use Rattle.rendering_taxonomy.specs.declared.style.DisambiguationRule.{DisambiguationRule}
 use Rattle.rendering_taxonomy.specs.declared.variable.DateVariable.{DateVariable}
 use Rattle.rendering_taxonomy.specs.declared.variable.DateVariable.TheVariants as date
 
@@ -44,16 +49,13 @@ abbrev pub numbered_after : {P : Type 0} → (P → P → Bool) → Document P �
 numbered_after same d (last, c) = record {
   cite = c;
   number = number_of d (entry_of c);
-  ibid = ibid_after same counts_at_first (option_map (λ l. l.item) last) c.item;
+  ibid = ibid_of same counts_at_first (option_map place_of last) c;
+  first_names = [];
 }
 
 -- the first print of a cite
 abbrev pub first_print : {P : Type 0} → Numbered P → FirstPrint P
 first_print p = record { numbered = p; rendered = printed_by p undisambiguated }
-
--- the first prints of the cites of each request
-abbrev pub first_prints_in : {P : Type 0} → (P → P → Bool) → Document P → List (List (FirstPrint P))
-first_prints_in same d = map (map (λ pair. first_print (numbered_after same d pair))) (with_previous None (cites_of d.requests))
 
 -- the index of the entry that a cite is of
 abbrev pub entry_of_first : {P : Type 0} → FirstPrint P → ℕ
@@ -71,12 +73,56 @@ has_suffix_date a = list_any (λ v. is_some (a.date v)) suffix_dates
 abbrev pub candidate : {P : Type 0} → FirstPrint P → prints.Candidate
 candidate b = record {
   entry = entry_of_first b;
+  number = b.numbered.number;
   has_date = has_suffix_date b.numbered.cite.item.entry.answers;
   style = b.numbered.cite.context.style.citation;
   printed = λ state. (printed_by b.numbered state).tree;
   met_disambiguate = b.rendered.met_disambiguate;
   names = b.rendered.names;
 }
+
+-- a cite that is to be disambiguated, as it prints undisambiguated
+abbrev pub printed_undisambiguated : {P : Type 0} → Numbered P → prints.Printed
+printed_undisambiguated p = printed_as (candidate (first_print p)) undisambiguated (printed_by p undisambiguated).tree
+
+-- the cites of each request with their numbers
+abbrev pub numbered_in : {P : Type 0} → (P → P → Bool) → Document P → List (List (Numbered P))
+numbered_in same d = map (map (numbered_after same d)) (with_previous None (cites_of d.requests))
+
+-- The rule by which given names are printed before cites are compared: that of the style of the first request, where it says so.
+abbrev pub first_rule : {P : Type 0} → List (Request P) → Option DisambiguationRule
+first_rule [] = None
+first_rule (r ∷ rs) =
+    if r.context.style.citation.raises_names_first then Some r.context.style.citation.givenname_rule else None
+
+-- the states by such a rule of so many entries, from what all cites print undisambiguated
+abbrev pub first_states : {P : Type 0} → Option DisambiguationRule → ℕ → List (Numbered P) → Option States
+first_states rule count ns = option_map (λ r. states_after (first_names r (map printed_undisambiguated ns)) (undisambiguated_states count)) rule
+
+-- how much of its first names a cite prints before cites are compared: by states, where there are some
+abbrev pub names_by : {P : Type 0} → Option States → Numbered P → Properties
+names_by None n = n.first_names
+names_by (Some states) n = names_of (state_of states (entry_of n.cite))
+
+-- a cite with these names
+abbrev pub with_first_names : {P : Type 0} → Option States → Numbered P → Numbered P
+with_first_names states n = record n { first_names = names_by states n }
+
+-- these states in a document
+abbrev pub first_states_in : {P : Type 0} → (P → P → Bool) → Document P → Option States
+first_states_in same d = first_states (first_rule d.requests) (length (cited d.requests)) (flattened (numbered_in same d))
+
+-- a cite with its number, its ibid state after the one before it, and its first names
+abbrev pub named_after : {P : Type 0} → (P → P → Bool) → Document P → Option (Cite P) × Cite P → Numbered P
+named_after same d pair = with_first_names (first_states_in same d) (numbered_after same d pair)
+
+-- the cites of each request as they print before they are compared
+abbrev pub named_in : {P : Type 0} → (P → P → Bool) → Document P → List (List (Numbered P))
+named_in same d = map (map (named_after same d)) (with_previous None (cites_of d.requests))
+
+-- the first prints of the cites of each request
+abbrev pub first_prints_in : {P : Type 0} → (P → P → Bool) → Document P → List (List (FirstPrint P))
+first_prints_in same d = map (map (λ pair. first_print (named_after same d pair))) (with_previous None (cites_of d.requests))
 
 -- whether the style of the first request adds names; without requests none does
 abbrev pub adds_names : {P : Type 0} → List (Request P) → Bool

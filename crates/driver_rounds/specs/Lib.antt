@@ -5,3 +5,4 @@ pub mod CitesInStep
 pub mod Numbering
 pub mod OrderAndNumbers
 pub mod Rounding
+pub mod Naming

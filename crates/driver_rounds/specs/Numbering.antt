@@ -1,14 +1,14 @@
 -- Cites from items with indices and what is known of them, and their numbers one after the other.
 use Rattle.std.specs.Prelude.{ℕ, ◌+◌, Bool, List, [], ◌∷◌, map, Vec, Option, Some}
-use Rattle.std.specs.Borrow.{Bor}
 use Rattle.std.specs.Option.{option_map}
 use Rattle.rendering_entries.specs.Answers.{Answers}
 use Rattle.rendering_context.specs.Contexts.{StyleContext}
 use Rattle.driver_requests.specs.Cites.{Cite, Numbered, entry_of}
-use Rattle.driver_requests.specs.Positions.{counts_at_first, ibid_after}
+use Rattle.driver_requests.specs.Positions.{counts_at_first, ibid_of, place_of}
 use Rattle.driver_requests.specs.Requests.{Item}
-use Rattle.driver_requests.specs.Views.{context_of, item_view}
+use Rattle.driver_requests.specs.Views.{context_of, item_view, last_view}
 use Rattle.driver_requests.specs.declared.item.CitationItem.{CitationItem}
+use Rattle.driver_requests.specs.declared.position.LastCite.{LastCite}
 use Rattle.driver_requests.specs.declared.request.CitationRequest.{CitationRequest}
 use Rattle.driver_requests.specs.declared.history.CiteFacts.{CiteFacts}
 use Rattle.driver_rounds.specs.declared.cite.NumberedCite.{NumberedCite}
@@ -39,15 +39,15 @@ all_cites_view answers (r ∷ rs) [] fs = []
 all_cites_view answers (r ∷ rs) (p ∷ ps) [] = []
 all_cites_view answers (r ∷ rs) (p ∷ ps) (f ∷ fs) = cites_view answers (context_of r) r.note_number 0 r.items.items p.items f.items ∷ all_cites_view answers rs ps fs
 
--- the last item, whose entry has that index
-abbrev pub last_item : {T P : Type 0} → (T → Answers) → ℕ → Option (Bor (CitationItem T P)) → Option (Item P)
-last_item {T} {P} answers entry_index last = option_map (λ (i : Bor (CitationItem T P)). item_view (λ e. entry_index) answers i.now) last
+-- the last cite, where there is one: its index in its request, and its item
+abbrev pub last_item : {T P : Type 0} → (T → Answers) → Option (LastCite T P) → Option (ℕ × Item P)
+last_item answers last = option_map (last_view answers) last
 
--- the last of items, whose entries have these indices, or the one before them
-abbrev pub last_item_among : {T P : Type 0} → (T → Answers) → Option (Item P) → List (CitationItem T P) → List ℕ → Option (Item P)
-last_item_among answers last [] indices = last
-last_item_among answers last (i ∷ is) [] = last
-last_item_among answers last (i ∷ is) (p ∷ ps) = last_item_among answers (Some (item_view (λ e. p) answers i)) is ps
+-- the last of items from an index on, whose entries have these indices, or the one before them
+abbrev pub last_item_among : {T P : Type 0} → (T → Answers) → Option (ℕ × Item P) → ℕ → List (CitationItem T P) → List ℕ → Option (ℕ × Item P)
+last_item_among answers last n [] indices = last
+last_item_among answers last n (i ∷ is) [] = last
+last_item_among answers last n (i ∷ is) (p ∷ ps) = last_item_among answers (Some (n, item_view (λ e. p) answers i)) (n + 1) is ps
 
 -- the index of the entry of a cite
 abbrev pub entry_at : NumberedCite → ℕ
@@ -57,21 +57,21 @@ entry_at n = n.entry
 abbrev pub entries_by_request : {A : Type 0} → List (Vec NumberedCite A) → List (List ℕ)
 entries_by_request {A} vs = map (λ (v : Vec NumberedCite A). map entry_at v.items) vs
 
--- a cite with its number, and its ibid state after an item
-abbrev pub numbered_from : {P : Type 0} → (P → P → Bool) → (ℕ → ℕ) → Option (Item P) → Cite P → Numbered P
-numbered_from same number last c = record { cite = c; number = number (entry_of c); ibid = ibid_after same counts_at_first last c.item }
+-- a cite with its number, and its ibid state after an item, which has an index in its request
+abbrev pub numbered_from : {P : Type 0} → (P → P → Bool) → (ℕ → ℕ) → Option (ℕ × Item P) → Cite P → Numbered P
+numbered_from same number last c = record { cite = c; number = number (entry_of c); ibid = ibid_of same counts_at_first last c; first_names = [] }
 
 -- cites with their numbers, each after the one before it
-abbrev pub numbering : {P : Type 0} → (P → P → Bool) → (ℕ → ℕ) → Option (Item P) → List (Cite P) → List (Numbered P)
+abbrev pub numbering : {P : Type 0} → (P → P → Bool) → (ℕ → ℕ) → Option (ℕ × Item P) → List (Cite P) → List (Numbered P)
 numbering same number last [] = []
-numbering same number last (c ∷ cs) = numbered_from same number last c ∷ numbering same number (Some c.item) cs
+numbering same number last (c ∷ cs) = numbered_from same number last c ∷ numbering same number (Some (place_of c)) cs
 
 -- the last item of cites, or the one before them
-abbrev pub last_after : {P : Type 0} → Option (Item P) → List (Cite P) → Option (Item P)
+abbrev pub last_after : {P : Type 0} → Option (ℕ × Item P) → List (Cite P) → Option (ℕ × Item P)
 last_after last [] = last
-last_after last (c ∷ cs) = last_after (Some c.item) cs
+last_after last (c ∷ cs) = last_after (Some (place_of c)) cs
 
 -- cites with their numbers request by request, each after the one before it
-abbrev pub numbering_all : {P : Type 0} → (P → P → Bool) → (ℕ → ℕ) → Option (Item P) → List (List (Cite P)) → List (List (Numbered P))
+abbrev pub numbering_all : {P : Type 0} → (P → P → Bool) → (ℕ → ℕ) → Option (ℕ × Item P) → List (List (Cite P)) → List (List (Numbered P))
 numbering_all same number last [] = []
 numbering_all same number last (cs ∷ css) = numbering same number last cs ∷ numbering_all same number (last_after last cs) css

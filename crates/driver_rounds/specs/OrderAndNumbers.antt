@@ -1,13 +1,12 @@
 -- What is known of cites before any is printed.
-use Rattle.std.specs.Prelude.{ℕ, Bool, List, map, length, if◌then◌else◌, None, Result, Ok, Err}
+use Rattle.std.specs.Prelude.{ℕ, Bool, List, length, if◌then◌else◌, Result, Ok, Err}
 use Rattle.rendering_entries.specs.Answers.{Answers}
-use Rattle.driver_requests.specs.Cites.{Numbered, cites_of}
+use Rattle.driver_requests.specs.Cites.{Numbered}
 use Rattle.driver_requests.specs.Errors.{Overflow, overflow}
 use Rattle.driver_requests.specs.Order.{cited, numbers_overflow}
-use Rattle.driver_requests.specs.Positions.{with_previous}
 use Rattle.driver_requests.specs.declared.request.CitationRequest.{CitationRequest}
 use Rattle.driver_rounds.specs.Documents.{Document, order_in}
-use Rattle.driver_rounds.specs.FirstPrints.{numbered_after}
+use Rattle.driver_rounds.specs.FirstPrints.{numbered_in}
 use Rattle.driver_rounds.specs.Views.{all_numbered_cites_view}
 use Rattle.driver_rounds.specs.declared.order_and_numbers.OrderAndNumbers.{OrderAndNumbers}
 
@@ -16,10 +15,6 @@ pub record KnownCites (P : Type 0) : Type 0 where
   pub count : ℕ
   pub order : List ℕ
   pub cites : List (List (Numbered P))
-
--- the cites of each request with their numbers
-abbrev pub numbered_in : {P : Type 0} → (P → P → Bool) → Document P → List (List (Numbered P))
-numbered_in same d = map (map (numbered_after same d)) (with_previous None (cites_of d.requests))
 
 -- what is known of the cites of a document
 abbrev pub known_of : {P : Type 0} → (P → P → Bool) → Document P → KnownCites P

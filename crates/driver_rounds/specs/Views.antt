@@ -4,6 +4,7 @@ use Rattle.std.specs.Option.{option_map}
 use Rattle.laws.specs.Borrowed.{borrowed}
 use Rattle.rendering_context.specs.Cites as cites
 use Rattle.rendering_context.specs.Cites.{CiteProperties, DisambiguateState, undisambiguated}
+use Rattle.rendering_context.specs.Views.{lent_names}
 use Rattle.rendering_entries.specs.Answers.{Answers}
 use Rattle.rendering_locale.specs.CodeViews.{code_view}
 use Rattle.rendering_locale.specs.Views.{locale_view}
@@ -18,7 +19,6 @@ use Rattle.driver_requests.specs.declared.item.CitationItem.{CitationItem}
 use Rattle.driver_requests.specs.declared.request.CitationRequest.{CitationRequest}
 use Rattle.driver_requests.specs.declared.bibliography_request.BibliographyRequest.{BibliographyRequest}
 use Rattle.driver_names.specs.Prints as prints
-use Rattle.driver_names.specs.Prints.{printed_as}
 use Rattle.driver_disambiguation.specs.Classes.{printed_under}
 use Rattle.driver_disambiguation.specs.States.{States}
 use Rattle.driver_rounds.specs.Documents.{Document}
@@ -51,6 +51,7 @@ properties_with n state locator ibid usage = record {
   ibid = ibid;
   disambiguation = state;
   identifier_usage = usage;
+  first_names = lent_names n.first_names;
 }
 
 -- a cite with its number and its ibid state, in a style
@@ -67,6 +68,7 @@ numbered_view answers x i n = record {
   };
   number = n.number;
   ibid = n.ibid;
+  first_names = lent_names n.first_names;
 }
 
 -- the cites of items
@@ -80,10 +82,6 @@ abbrev pub all_numbered_cites_view : {T P A : Type 0} → (T → Answers) → Li
 all_numbered_cites_view answers [] vs = []
 all_numbered_cites_view answers (r ∷ rs) [] = []
 all_numbered_cites_view answers (r ∷ rs) (v ∷ vs) = numbered_cites_view answers (context_of r) r.items.items v.items ∷ all_numbered_cites_view answers rs vs
-
--- a cite that is to be disambiguated, as it prints undisambiguated
-abbrev pub printed_undisambiguated : {P : Type 0} → Numbered P → prints.Printed
-printed_undisambiguated p = printed_as (candidate (first_print p)) undisambiguated (printed_by p undisambiguated).tree
 
 -- which identifiers a cite prints undisambiguated
 abbrev pub usage_of : {P : Type 0} → Numbered P → IdentifierUsage

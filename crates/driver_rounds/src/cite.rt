@@ -14,12 +14,13 @@ use driver_requests::{CitationItem, CiteFacts};
 use rendering::{Effort, Rendering, StyleContext};
 use rendering_context::{CiteProperties, DisambiguateState, SpecificLocator};
 use rendering_entries::EntryLike;
+use rendering_people::NameDisambiguationProperties;
 use rendering_taxonomy::{CitePurpose, DateVariable, IbidState, IdentifierUsage};
 use std::alloc::AllocError;
 
 /// A cite with what is known of it from its index.
 #[derive(Clone, Copy)]
-pub struct NumberedCite {
+pub struct NumberedCite<'n> {
     /// The index of its entry among all that are cited, from zero.
     pub entry: usize,
     /// Its index in its request, from zero.
@@ -30,18 +31,20 @@ pub struct NumberedCite {
     pub number: usize,
     /// How it stands to the cite before it, as written.
     pub ibid: IbidState,
+    /// How much of its first names is printed before cites are compared, where that is more than its style says.
+    pub first_names: Option<&'n NameDisambiguationProperties>,
 }
 
-impl NumberedCite {
+impl<'n> NumberedCite<'n> {
     /// What is known of it in a state of disambiguation.
-    pub fn properties<'c>(
+    pub fn properties(
         self,
         state: DisambiguateState,
-        locator: Option<SpecificLocator<'c, ()>>,
+        locator: Option<SpecificLocator<'n, ()>>,
         ibid: IbidState,
         usage: IdentifierUsage,
-    ) -> CiteProperties<'c>
-        ensures { cite_properties_view result ≡ properties_with self
+    ) -> CiteProperties<'n>
+        ensures { cite_properties_view result ≡ properties_with self.entry
             (state_view state) (option_map locator_view locator.entry) ibid usage }
     {
         CiteProperties {
@@ -55,6 +58,7 @@ impl NumberedCite {
             ibid,
             disambiguation: state,
             identifier_usage: usage,
+            first_names: self.first_names,
         }
     }
 }
@@ -64,7 +68,7 @@ impl NumberedCite {
 pub(crate) struct StyledCite<'r, 'c, T, P> {
     pub(crate) item: &'r CitationItem<'r, T, P>,
     pub(crate) context: &'c StyleContext<'c>,
-    pub(crate) numbered: NumberedCite,
+    pub(crate) numbered: NumberedCite<'c>,
 }
 
 /// The purpose for which a cite is printed until states are final: a cite for its year is printed whole.

@@ -12,7 +12,7 @@ use rendering::StyleContext;
 pub struct DocumentCites<'r, 'c, T, P> {
     pub requests: &'r [CitationRequest<'r, T, P>],
     pub contexts: &'c [StyleContext<'c>],
-    pub runs: &'c [Vec<NumberedCite>],
+    pub runs: &'c [Vec<NumberedCite<'c>>],
 }
 
 /// A request with its style, and its cites in the order of its items.
@@ -20,7 +20,7 @@ pub struct DocumentCites<'r, 'c, T, P> {
 pub struct RequestCites<'r, 'c, T, P> {
     pub request: &'r CitationRequest<'r, T, P>,
     pub context: &'c StyleContext<'c>,
-    pub run: &'c [NumberedCite],
+    pub run: &'c [NumberedCite<'c>],
 }
 
 impl<'r, 'c, T, P> DocumentCites<'r, 'c, T, P> {

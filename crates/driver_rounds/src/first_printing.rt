@@ -6,7 +6,8 @@ ghost use Rattle.rendering.specs.Views.{style_context_view};
 ghost use Rattle.rendering_style.specs.Views.{citation_layout_view};
 ghost use Rattle.driver_names.specs.Views.{printed_view};
 ghost use Rattle.driver_rounds.specs.CitesInStep.{AreInStep, IsInStep, all_cites, cites_count, request_cites, styled_view};
-ghost use Rattle.driver_rounds.specs.Views.{printed_undisambiguated, usage_of};
+ghost use Rattle.driver_rounds.specs.FirstPrints.{printed_undisambiguated};
+ghost use Rattle.driver_rounds.specs.Views.{usage_of};
 
 use crate::cite::{StyledCite, has_suffix_date, printed_by};
 use crate::document_cites::{DocumentCites, RequestCites};
@@ -117,6 +118,7 @@ fn print_first<T: EntryLike, P>(
     let usage = first.identifier_usage;
     let candidate = Candidate::new(
         cite.numbered.entry,
+        cite.numbered.number,
         has_suffix_date(cite.item.entry),
         style,
         first.met_disambiguate,

@@ -21,7 +21,7 @@ use std::hash::Hash;
 pub struct OrderAndNumbers {
     pub count: usize,
     pub order: Vec<usize>,
-    pub runs: Vec<Vec<NumberedCite>>,
+    pub runs: Vec<Vec<NumberedCite<'static>>>,
 }
 
 /// What is known of the cites of requests. Equal entries are one.

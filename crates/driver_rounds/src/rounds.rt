@@ -14,7 +14,8 @@ ghost use Rattle.driver_requests.specs.Views.{request_view};
 ghost use Rattle.driver_rounds.specs.CitesInStep.{AreInStep, IsInStep, all_candidates, all_cites, cites_count, request_cites, requests_by, styled_view};
 ghost use Rattle.driver_rounds.specs.Rounding.{again_by, again_if, are_again, AreWithin, round_states_view, unless_overflow};
 ghost use Rattle.driver_rounds.specs.FirstPrints as first;
-ghost use Rattle.driver_rounds.specs.Views.{printed_by_states, printed_undisambiguated};
+ghost use Rattle.driver_rounds.specs.FirstPrints.{printed_undisambiguated};
+ghost use Rattle.driver_rounds.specs.Views.{printed_by_states};
 
 use crate::cite::{StyledCite, printed_by};
 use crate::document_cites::{DocumentCites, RequestCites};
@@ -81,7 +82,7 @@ fn adds_names<T: EntryLike, P>(requests: &[CitationRequest<'_, T, P>]) -> bool
 }
 
 /// The states of so many entries that are not disambiguated.
-fn undisambiguated_states(
+pub(crate) fn undisambiguated_states(
     alloc: Global,
     entries: usize,
 ) -> Result<Vec<DisambiguateState>, AllocError>

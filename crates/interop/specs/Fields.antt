@@ -15,9 +15,9 @@ abbrev pub also : List ℕ → Option (List ℕ) → Option Serials → Option S
 also scheme None numbers = numbers
 also scheme (Some number) numbers = Some (with_number scheme number numbers)
 
--- what the entry itself says
-abbrev pub own_fields : Values → EntryType → Fields
-own_fields v t = record (nothing_but t) {
+-- what the entry itself says, but for the texts of its numbers
+abbrev pub own_values : Values → EntryType → Fields
+own_values v t = record (nothing_but t) {
   title = title_of v;
   author = people_under (codes "author") v;
   translator = people_under (codes "translator") v;
@@ -30,6 +30,17 @@ own_fields v t = record (nothing_but t) {
   note = format_under (codes "note") v;
   language = bytes_under (codes "langid") v;
 }
+
+-- texts of numbers and of pages as they were written, and those that are there already
+abbrev pub own_texts : Values → Option Serials → Option Serials
+own_texts v texts =
+    also (codes "chapter") (bytes_under (codes "chapter") v)
+    (also (codes "page-range") (bytes_under (codes "pages") v)
+    (also (codes "page-total") (bytes_under (codes "pagetotal") v) texts))
+
+-- what the entry itself says
+abbrev pub own_fields : Values → EntryType → Fields
+own_fields v t = record (own_values v t) { written = own_texts v None }
 
 abbrev pub is_periodical : EntryType → Bool
 is_periodical works.Periodical = true
@@ -45,9 +56,14 @@ abbrev pub series_number : Bool → Values → Option (List ℕ)
 series_number true v = None
 series_number false v = bytes_under (codes "number") v
 
--- what the fields say of the container, or of the entry itself where there is no container
-abbrev pub container_fields : Values → Fields → Fields
-container_fields v fs = record fs {
+-- the text of an issue as it was written
+abbrev pub issue_text : Bool → Values → Option (List ℕ)
+issue_text true v = option_or (bytes_under (codes "number") v) (bytes_under (codes "issue") v)
+issue_text false v = None
+
+-- what the fields say of the container, but for the texts of its numbers
+abbrev pub container_values : Values → Fields → Fields
+container_values v fs = record fs {
   editor = people_under (codes "editor") v;
   publisher = publisher_of v;
   volume = number_under (codes "volume") v;
@@ -56,3 +72,18 @@ container_fields v fs = record fs {
   edition = number_under (codes "edition") v;
   serial_number = also (codes "serial") (series_number (is_periodical fs.entry_type) v) (also (codes "issn") (bytes_under (codes "issn") v) (also (codes "isbn") (bytes_under (codes "isbn") v) fs.serial_number));
 }
+
+-- texts of its numbers as they were written, and those that are there already; whether it is a periodical
+abbrev pub container_texts : Bool → Values → Option Serials → Option Serials
+container_texts periodical v texts =
+    also (codes "volume") (bytes_under (codes "volume") v)
+    (also (codes "volume-total") (bytes_under (codes "volumes") v)
+    (also (codes "edition") (bytes_under (codes "edition") v)
+    (also (codes "issue") (issue_text periodical v) texts)))
+
+-- what the fields say of the container, or of the entry itself where there is no container
+abbrev pub container_fields : Values → Fields → Fields
+container_fields v fs =
+    record (container_values v fs) {
+      written = container_texts (is_periodical fs.entry_type) v fs.written;
+    }

@@ -6,14 +6,14 @@ ghost use Rattle.literature_entries.specs.Views as views;
 ghost use Rattle.literature_numbers.specs.Views.{numeral_view};
 ghost use Rattle.literature_values.specs.TypedViews.{typed_view};
 ghost use Rattle.interop_values.specs.Values.{values};
-ghost use Rattle.interop.specs.Fields.{own_fields, is_periodical, issue_of, series_number, container_fields};
+ghost use Rattle.interop.specs.Fields.{own_fields, own_values, own_texts, is_periodical, issue_of, issue_text, series_number, container_fields, container_values, container_texts};
 ghost use Rattle.interop.specs.Views.{dates_of, IsBare};
 
 use crate::dates::Dates;
 use crate::setting::{
     set_author, set_chapter, set_date, set_edition, set_editor, set_issue, set_language, set_note,
-    set_number, set_page_range, set_page_total, set_publisher, set_title, set_translator, set_url,
-    set_volume, set_volume_total,
+    set_number, set_page_range, set_page_total, set_publisher, set_text, set_title, set_translator,
+    set_url, set_volume, set_volume_total,
 };
 use biblatex_fields::Fields;
 use interop_values::{
@@ -36,6 +36,25 @@ pub(crate) fn own_entry(
     ensures key { IfOk result (λ e. views.key_view e ≡ string_bytes key) }
     ensures fields { IfOk result (λ e. views.fields_view e
         ≡ own_fields (values fields.now) entry_type) }
+    ensures parents { IfOk result (λ e. views.parents e ≡ []) }
+{
+    let mut entry = own_values(alloc, key, entry_type, fields, dates)?;
+    set_own_texts(alloc, &mut entry, fields)?;
+    Ok(entry)
+}
+
+/// The same without the texts of numbers.
+fn own_values(
+    alloc: Global,
+    key: String,
+    entry_type: EntryType,
+    fields: &Fields,
+    dates: Dates,
+) -> Result<Entry, AllocError>
+    requires { dates ≡ dates_of (values fields.now) }
+    ensures key { IfOk result (λ e. views.key_view e ≡ string_bytes key) }
+    ensures fields { IfOk result (λ e. views.fields_view e
+        ≡ own_values (values fields.now) entry_type) }
     ensures parents { IfOk result (λ e. views.parents e ≡ []) }
 {
     let mut entry = Entry::new(key, entry_type);
@@ -63,6 +82,16 @@ pub(crate) fn set_container_fields(
     ensures { OnOk result (views.Sets entry.old
         (container_fields (values fields.now) (views.fields_view entry.old)) entry.new) }
 {
+    set_container_values(alloc, entry, fields)?;
+    set_container_texts(alloc, entry, fields)
+}
+
+/// The same without the texts of numbers.
+fn set_container_values(alloc: Global, entry: &mut Entry, fields: &Fields) -> Result<(), AllocError>
+    requires { IsBare (views.fields_view entry.old) }
+    ensures { OnOk result (views.Sets entry.old
+        (container_values (values fields.now) (views.fields_view entry.old)) entry.new) }
+{
     let is_periodical = is_periodical(*entry.entry_type());
     set_editor(entry, people_under(alloc, fields, "editor")?);
     set_publisher(entry, publisher(alloc, fields)?);
@@ -85,6 +114,49 @@ fn is_periodical(entry_type: EntryType) -> bool
     match entry_type {
         EntryType::Periodical => true,
         _ => false,
+    }
+}
+
+/// Adds the texts of numbers and of pages of the entry itself, as they were written.
+fn set_own_texts(alloc: Global, entry: &mut Entry, fields: &Fields) -> Result<(), AllocError>
+    ensures { OnOk result (views.Sets entry.old (record (views.fields_view entry.old)
+        { written = own_texts (values fields.now) (views.fields_view entry.old).written })
+        entry.new) }
+{
+    set_text(entry, "page-total", text_under(alloc, fields, "pagetotal")?)?;
+    set_text(entry, "page-range", text_under(alloc, fields, "pages")?)?;
+    set_text(entry, "chapter", text_under(alloc, fields, "chapter")?)
+}
+
+/// Adds the texts of numbers of the container, as they were written.
+fn set_container_texts(alloc: Global, entry: &mut Entry, fields: &Fields) -> Result<(), AllocError>
+    ensures { OnOk result (views.Sets entry.old (record (views.fields_view entry.old) {
+      written = container_texts (is_periodical (views.fields_view entry.old).entry_type)
+          (values fields.now) (views.fields_view entry.old).written;
+    }) entry.new) }
+{
+    let is_periodical = is_periodical(*entry.entry_type());
+    set_text(entry, "issue", issue_text(alloc, fields, is_periodical)?)?;
+    set_text(entry, "edition", text_under(alloc, fields, "edition")?)?;
+    set_text(entry, "volume-total", text_under(alloc, fields, "volumes")?)?;
+    set_text(entry, "volume", text_under(alloc, fields, "volume")?)
+}
+
+/// The text of the issue of a periodical, by `number` or else by `issue`, as it was written.
+fn issue_text(
+    alloc: Global,
+    fields: &Fields,
+    is_periodical: bool,
+) -> Result<Option<String>, AllocError>
+    ensures { IfOk result (λ s. option_map string_bytes s
+        ≡ issue_text is_periodical (values fields.now)) }
+{
+    if !is_periodical {
+        return Ok(None);
+    }
+    match text_under(alloc, fields, "number")? {
+        Some(text) => Ok(Some(text)),
+        None => text_under(alloc, fields, "issue"),
     }
 }
 

@@ -166,3 +166,19 @@ pub(crate) fn set_number(
         None => Ok(()),
     }
 }
+
+/// Sets the text of a number or of pages as it was written, by the name of its field, if there is one.
+pub(crate) fn set_text(
+    entry: &mut Entry,
+    field: &str,
+    text: Option<String>,
+) -> Result<(), AllocError>
+    ensures { OnOk result (Sets entry.old (record (fields_view entry.old) {
+      written = also field.now (option_map string_bytes text) (fields_view entry.old).written;
+    }) entry.new) }
+{
+    match text {
+        Some(text) => entry.set_written(field, text),
+        None => Ok(()),
+    }
+}

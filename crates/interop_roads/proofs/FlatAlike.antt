@@ -24,7 +24,7 @@ use Rattle.literature_entries.specs.Fields.{Fields, nothing_but}
 use Rattle.interop_values.specs.Readings.{bytes_under, format_of, people_under}
 use Rattle.interop_values.specs.Values.{Values, filled, values}
 use Rattle.interop.specs.Bridge.{Fault, bridged, container_of, entry_in, faults_of, further, parent, titled_under, unless_faulty, work_of}
-use Rattle.interop.specs.Fields.{also, container_fields, is_periodical, issue_of, own_fields, series_number}
+use Rattle.interop.specs.Fields.{also, container_fields, is_periodical, issue_of, issue_text, own_fields, series_number}
 use Rattle.interop.specs.Kinds.{Container, Row, alone, part_of, row_of}
 use Rattle.interop.specs.Library.{all_faults, all_works, is_xdata, library_of, put_after, works_in}
 
@@ -80,6 +80,10 @@ issue_hidden : (b : Bool) (v : Values) → issue_of b (hidden v) ≡ issue_of b 
 issue_hidden true v = refl
 issue_hidden false v = refl
 
+issue_text_hidden : (b : Bool) (v : Values) → issue_text b (hidden v) ≡ issue_text b v
+issue_text_hidden true v = refl
+issue_text_hidden false v = refl
+
 series_hidden : (b : Bool) (v : Values) → series_number b (hidden v) ≡ series_number b v
 series_hidden true v = refl
 series_hidden false v = refl
@@ -88,6 +92,11 @@ container_hidden : (v : Values) (fs : Fields) → container_fields (hidden v) fs
 container_hidden v fs = λ i. record (container_fields v fs) {
   issue = issue_hidden (is_periodical fs.entry_type) v i;
   serial_number = also (codes "serial") (series_hidden (is_periodical fs.entry_type) v i) (also (codes "issn") (bytes_under (codes "issn") v) (also (codes "isbn") (bytes_under (codes "isbn") v) fs.serial_number));
+  written =
+      also (codes "volume") (bytes_under (codes "volume") v)
+      (also (codes "volume-total") (bytes_under (codes "volumes") v)
+      (also (codes "edition") (bytes_under (codes "edition") v)
+      (also (codes "issue") (issue_text_hidden (is_periodical fs.entry_type) v i) fs.written)));
 }
 
 entry_hidden : (key : List ℕ) (v : Values) (t : EntryType) (o : Option (EntryType × List Member)) → entry_in key (hidden v) t o ≡ entry_in key v t o

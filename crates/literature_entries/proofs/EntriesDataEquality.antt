@@ -109,7 +109,8 @@ Shows-Details a b =
     (both (addresses a.url b.url)
     (both (serial_numbers a.serial_number b.serial_number)
     (both (titles a.note b.note)
-    (languages a.language b.language))))))))))))))))))
+    (both (languages a.language b.language)
+    (serial_numbers a.written b.written)))))))))))))))))))
     (λ e i. record {
       entry_type = e.0 i;
       title = e.1.0 i;
@@ -128,9 +129,10 @@ Shows-Details a b =
       url = e.1.1.1.1.1.1.1.1.1.1.1.1.1.1.0 i;
       serial_number = e.1.1.1.1.1.1.1.1.1.1.1.1.1.1.1.0 i;
       note = e.1.1.1.1.1.1.1.1.1.1.1.1.1.1.1.1.0 i;
-      language = e.1.1.1.1.1.1.1.1.1.1.1.1.1.1.1.1.1 i;
+      language = e.1.1.1.1.1.1.1.1.1.1.1.1.1.1.1.1.1.0 i;
+      written = e.1.1.1.1.1.1.1.1.1.1.1.1.1.1.1.1.1.1 i;
     })
-    (λ e. (ap (λ f. f.entry_type) e, (ap (λ f. f.title) e, (ap (λ f. f.author) e, (ap (λ f. f.editor) e, (ap (λ f. f.translator) e, (ap (λ f. f.date) e, (ap (λ f. f.publisher) e, (ap (λ f. f.volume) e, (ap (λ f. f.volume_total) e, (ap (λ f. f.issue) e, (ap (λ f. f.chapter) e, (ap (λ f. f.edition) e, (ap (λ f. f.page_range) e, (ap (λ f. f.page_total) e, (ap (λ f. f.url) e, (ap (λ f. f.serial_number) e, (ap (λ f. f.note) e, (ap (λ f. f.language) e)))))))))))))))))))
+    (λ e. (ap (λ f. f.entry_type) e, (ap (λ f. f.title) e, (ap (λ f. f.author) e, (ap (λ f. f.editor) e, (ap (λ f. f.translator) e, (ap (λ f. f.date) e, (ap (λ f. f.publisher) e, (ap (λ f. f.volume) e, (ap (λ f. f.volume_total) e, (ap (λ f. f.issue) e, (ap (λ f. f.chapter) e, (ap (λ f. f.edition) e, (ap (λ f. f.page_range) e, (ap (λ f. f.page_total) e, (ap (λ f. f.url) e, (ap (λ f. f.serial_number) e, (ap (λ f. f.note) e, (ap (λ f. f.language) e, (ap (λ f. f.written) e))))))))))))))))))))
 
 -- an entry holds its key, its fields and its parents
 whole_is : (e : Entry) → entry_view e ≡ Holding (key_view e) (fields_view e) (wholes (map entry_view (parents e)))

@@ -13,7 +13,8 @@ use Rattle.literature_values.specs.declared.entry_type.EntryType.{EntryType}
 abbrev pub Serials : Type 0
 Serials = List (List ℕ × List ℕ)
 
--- the type and the fields of an entry, its key and its parents aside
+-- The type and the fields of an entry, its key and its parents aside. Last come the texts of numbers and of pages as they were
+-- written, by the names of their fields.
 pub record Fields : Type 0 where
   pub entry_type : EntryType
   pub title : Option Format
@@ -33,6 +34,7 @@ pub record Fields : Type 0 where
   pub serial_number : Option Serials
   pub note : Option Format
   pub language : Option (List ℕ)
+  pub written : Option Serials
 
 -- a type without fields
 abbrev pub nothing_but : EntryType → Fields
@@ -55,4 +57,5 @@ nothing_but t = record {
   serial_number = None;
   note = None;
   language = None;
+  written = None;
 }

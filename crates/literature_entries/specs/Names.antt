@@ -26,6 +26,14 @@ with_number scheme number (Some numbers) = insert_entry (slice_cmp nat_cmp) numb
 abbrev pub with_serial : List ℕ → List ℕ → Fields → Fields
 with_serial scheme number fs = record fs { serial_number = Some (with_number scheme number fs.serial_number) }
 
+-- the text of a number or of pages as it was written, by the name of its field
+abbrev pub written : List ℕ → Fields → Option (List ℕ)
+written field fs = number_under field fs.written
+
+-- an entry with such a text
+abbrev pub with_written : List ℕ → List ℕ → Fields → Fields
+with_written field cs fs = record fs { written = Some (with_number field cs fs.written) }
+
 -- whether a field that says what the work is and who made it is set, or nothing where no such field has the name
 unfoldable pub of_work : List ℕ → Fields → Option Bool
 of_work name fs = lookup (bytes_eq name) (

@@ -48,6 +48,7 @@ details_view d = record {
   serial_number = option_map serials_view d.serial_number;
   note = option_map format_view d.note;
   language = option_map string_bytes d.language;
+  written = option_map serials_view d.written;
 }
 
 -- the bytes of an entry's key

@@ -30,6 +30,8 @@ pub(crate) struct Details {
     pub(crate) serial_number: Option<SerialNumber>,
     pub(crate) note: Option<FormatString>,
     pub(crate) language: Option<String>,
+    /// The texts of numbers and of pages as they were written, by the names of their fields.
+    pub(crate) written: Option<SerialNumber>,
 }
 
 impl Details {
@@ -56,6 +58,7 @@ impl Details {
             serial_number: None,
             note: None,
             language: None,
+            written: None,
         }
     }
 }

@@ -7,6 +7,7 @@ mod entry;
 mod equal;
 mod fields;
 mod serials;
+mod written;
 
 pub use entry::Entry;
 pub use equal::are_equal_entries;

@@ -130,7 +130,7 @@ impl Entry {
 
 /// The number under the name of a scheme.
 #[tactic(auto, using(crate::proofs::NamesSerials::number_found))]
-fn number_under<'n>(numbers: &'n Option<SerialNumber>, scheme: &str) -> Option<&'n str>
+pub(crate) fn number_under<'n>(numbers: &'n Option<SerialNumber>, scheme: &str) -> Option<&'n str>
     ensures { view_in (λ s. s) result
         ≡ number_under scheme.now (option_map serials_view numbers.now) }
 {
@@ -145,7 +145,7 @@ fn number_under<'n>(numbers: &'n Option<SerialNumber>, scheme: &str) -> Option<&
 
 /// Puts a number under the name of a scheme.
 #[tactic(auto, using(crate::proofs::NamesSerials::number_put))]
-fn put_number(
+pub(crate) fn put_number(
     numbers: &mut Option<SerialNumber>,
     scheme: &str,
     number: String,

@@ -14,15 +14,15 @@ use Rattle.rendering_style.specs.Options.{NameOptions}
 use Rattle.rendering_style.specs.Nodes.{names, no_nodes, node}
 use Rattle.rendering_style.specs.Styles.{Layout, Bibliography, Style}
 use Rattle.rendering_context.specs.Contexts.{Context}
-use Rattle.rendering_leaves.specs.NodeSettings.{SpecialForm, whole, author_only, without_author, State, append, noted}
+use Rattle.rendering_leaves.specs.NodeSettings.{SpecialForm, whole, author_only, without_author, authors_alone, without_names, State, append, noted}
 use Rattle.rendering_context.specs.Answering.{is_english}
 use Rattle.rendering_nodes.specs.Content.{contents, stage}
-use Rattle.rendering_nodes.specs.Named.{Named, AreAlike, AnswerAlike, joined_named, variable_named, always_named, named}
+use Rattle.rendering_nodes.specs.Named.{Named, AreAlike, joined_named, variable_named, always_named, named}
 use Rattle.rendering_nodes.specs.Laws.{with_answers}
-use Rattle.rendering_nodes.proofs.AnswersAlike.{first_alike, others_alike, has_same}
+use Rattle.rendering_nodes.proofs.AnswersAlike.{AlikeAt, AlikeIn, alike_in, first_alike, others_alike, has_same}
 use Rattle.rendering_nodes.proofs.EntriesAlike.{labels_alike, surveys_same, contents_same}
-use Rattle.rendering.specs.Purposes.{layout_nodes, context_of, setting_of, append_layout, layout_survey, append_citation, citation_survey, citation_normal, year_dates, first_dated, append_year, author_variable, elsewhere, author_node, append_made, author_last, author_elsewhere, append_author, prints_identifiers, space_before, append_enclosed, append_prose, form_of, begun_in, rendered_aligned, rendered, full_of, rendered_for, layout_frame, append_item, item_of}
-use Rattle.rendering.specs.Alike.{named_in_bibliography, style_named, AlikeCitesAreOne, AlikeItemsAreOne}
+use Rattle.rendering.specs.Purposes.{layout_nodes, context_of, setting_of, append_layout, layout_survey, append_citation, citation_survey, citation_normal, year_dates, first_dated, append_year, author_variable, elsewhere, author_node, append_made, author_last, author_elsewhere, append_author, is_published, author_form, rest_form, prints_identifiers, space_before, append_enclosed, spaced_frame, prose_frame, append_framed, append_between, append_prose, form_of, begun_in, rendered_aligned, rendered, full_of, rendered_for, layout_frame, append_item, item_of}
+use Rattle.rendering.specs.Alike.{named_in_bibliography, layouts_named, style_named, AlikeCitesAreOne, AlikeItemsAreOne}
 use Rattle.rendering_taxonomy.specs.declared.cite.CitePurpose.{CitePurpose}
 use Rattle.rendering_taxonomy.specs.declared.cite.CitePurpose.TheVariants as purposes
 use Rattle.rendering_taxonomy.specs.declared.cite.CollapseVerdict.{CollapseVerdict}
@@ -39,13 +39,13 @@ use Rattle.rendering_taxonomy.specs.declared.variable.Variable.TheVariants as va
 nine_named : length always_named.variables ≡ 9
 nine_named = refl
 
-named_at : (a b : Answers) (v : Variable) → AreAlike always_named a b → Contains always_named.variables v → AnswerAlike a b v
+named_at : {w : Bool} (a b : Answers) (v : Variable) → AlikeIn w always_named a b → Contains always_named.variables v → AlikeAt w a b v
 named_at a b v h k = h.variables v k
 
-author_alike : (a b : Answers) → AreAlike always_named a b → AnswerAlike a b (variables.Name name.Author)
+author_alike : {w : Bool} (a b : Answers) → AlikeIn w always_named a b → AlikeAt w a b (variables.Name name.Author)
 author_alike a b h = named_at a b (variables.Name name.Author) h (0, omega (arith, nine_named), refl)
 
-editor_alike : (a b : Answers) → AreAlike always_named a b → AnswerAlike a b (variables.Name name.Editor)
+editor_alike : {w : Bool} (a b : Answers) → AlikeIn w always_named a b → AlikeAt w a b (variables.Name name.Editor)
 editor_alike a b h = named_at a b (variables.Name name.Editor) h (1, omega (arith, nine_named), refl)
 
 -- what they name beside authors
@@ -57,24 +57,25 @@ besides_author = record {
       ∷ variables.Date date.EventDate ∷ variables.Date date.Submitted ∷ variables.Date date.OriginalDate
       ∷ variables.Standard standard.CitationLabel ∷ [];
   kinds = [];
+  written = [];
 }
 
-author_node_alike : (a b : Answers) → AreAlike always_named a b → AreAlike (named (node (names author_node no_nodes) no_nodes)) a b
+author_node_alike : {w : Bool} (a b : Answers) → AlikeIn w always_named a b → AlikeIn w (named (node (names author_node no_nodes) no_nodes)) a b
 author_node_alike a b h = first_alike (variable_named (variables.Name name.Author)) besides_author a b h
 
 -- layouts
-layout_same : (a b : Answers) (c : Context) (s : Style) (l : Layout) (options : NameOptions) (form : SpecialForm) (st : State) → AreAlike always_named a b → AreAlike (named (layout_nodes s l)) a b
+layout_same : (a b : Answers) (c : Context) (s : Style) (l : Layout) (options : NameOptions) (form : SpecialForm) (st : State) → AlikeIn c.is_published always_named a b → AlikeIn c.is_published (named (layout_nodes s l)) a b
     → append_layout s (with_answers a c) l options form st ≡ append_layout s (with_answers b c) l options form st
 layout_same a b c s l options form st g h =
     ap (λ (e : Option Bool). contents (with_answers a c) (setting_of s (unwrap_or e c.in_english) l options form) true (layout_nodes s l) st) g.english
     ∙ contents_same a b c (setting_of s (is_english (with_answers b c)) l options form) true (layout_nodes s l) st (labels_alike a b g) h
 
-asked_same : (a b : Answers) (c : Context) (s : Style) (l : Layout) (options : NameOptions) (form : SpecialForm) (st : State) → AreAlike always_named a b → AreAlike (named (layout_nodes s l)) a b
+asked_same : (a b : Answers) (c : Context) (s : Style) (l : Layout) (options : NameOptions) (form : SpecialForm) (st : State) → AlikeIn c.is_published always_named a b → AlikeIn c.is_published (named (layout_nodes s l)) a b
     → layout_survey s (with_answers a c) l options form st ≡ layout_survey s (with_answers b c) l options form st
 asked_same a b c s l options form st g h = surveys_same a b (stage c (setting_of s (is_english c) l options form) st) (layout_nodes s l) (labels_alike a b g) h
 
 -- the year alone
-dates_same : (a b : Answers) → AreAlike always_named a b → filter_map a.date year_dates ≡ filter_map b.date year_dates
+dates_same : {w : Bool} (a b : Answers) → AlikeIn w always_named a b → filter_map a.date year_dates ≡ filter_map b.date year_dates
 dates_same a b h =
     let issued = named_at a b (variables.Date date.Issued) h (2, omega (arith, nine_named), refl) in
     let event = named_at a b (variables.Date date.EventDate) h (5, omega (arith, nine_named), refl) in
@@ -82,25 +83,25 @@ dates_same a b h =
     let original = named_at a b (variables.Date date.OriginalDate) h (7, omega (arith, nine_named), refl) in
     λ i. cons_option (issued i) (cons_option (event i) (cons_option (submitted i) (cons_option (original i) [])))
 
-year_same : (a b : Answers) (c : Context) (st : State) → AreAlike always_named a b → append_year (with_answers a c) st ≡ append_year (with_answers b c) st
+year_same : (a b : Answers) (c : Context) (st : State) → AlikeIn c.is_published always_named a b → append_year (with_answers a c) st ≡ append_year (with_answers b c) st
 year_same a b c st h =
     ap (λ (ds : List Date). append c (normal plain_manner (option_map_or (years_text c.locales) (first_dated ds) (unwrap_or (term c.locales (terms.Other others.NoDate) forms.Long false) (codes "n.d."))) ∷ []) st)
     (dates_same a b h)
 
 -- the authors
-variable_same : (a b : Answers) (c : Context) → AreAlike always_named a b → author_variable (with_answers a c) ≡ author_variable (with_answers b c)
+variable_same : (a b : Answers) (c : Context) → AlikeIn c.is_published always_named a b → author_variable (with_answers a c) ≡ author_variable (with_answers b c)
 variable_same a b c h =
     let authors = has_same a b c (variables.Name name.Author) (labels_alike a b h) (author_alike a b h) in
     let editors = has_same a b c (variables.Name name.Editor) (labels_alike a b h) (editor_alike a b h) in
     λ i. if not (authors i) && editors i then name.Editor else name.Author
 
-made_same : (a b : Answers) (c : Context) (s : Style) (form : SpecialForm) (st : State) → AreAlike always_named a b → append_made s (with_answers a c) form st ≡ append_made s (with_answers b c) form st
+made_same : (a b : Answers) (c : Context) (s : Style) (form : SpecialForm) (st : State) → AlikeIn c.is_published always_named a b → append_made s (with_answers a c) form st ≡ append_made s (with_answers b c) form st
 made_same a b c s form st h =
     let authors = node (names author_node no_nodes) no_nodes in
     ap (λ (e : Option Bool). contents (with_answers a c) (setting_of s (unwrap_or e c.in_english) s.citation.layout s.citation.name_options form) true authors st) h.english
     ∙ contents_same a b c (setting_of s (is_english (with_answers b c)) s.citation.layout s.citation.name_options form) true authors st (labels_alike a b h) (author_node_alike a b h)
 
-last_same : (a b : Answers) (c : Context) (s : Style) (form : SpecialForm) (o : Option Bibliography) (st : State) → AreAlike always_named a b → AreAlike (named_in_bibliography s o) a b
+last_same : (a b : Answers) (c : Context) (s : Style) (form : SpecialForm) (o : Option Bibliography) (st : State) → AlikeIn c.is_published always_named a b → AlikeIn c.is_published (named_in_bibliography s o) a b
     → author_last s (with_answers a c) form o st ≡ author_last s (with_answers b c) form o st
 last_same a b c s form None st g h = made_same a b c s form st g
 last_same a b c s form (Some y) st g h =
@@ -109,26 +110,31 @@ last_same a b c s form (Some y) st g h =
     then layout_same a b c s y.layout y.name_options form (noted (asked i).met st) g h i
     else made_same a b c s form (noted (asked i).met st) g i
 
--- what a style names, and what is answered alike to it
-record StyleAlike (s : Style) (a b : Answers) : Type 0 where
-  always : AreAlike always_named a b
-  in_citation : AreAlike (named (layout_nodes s s.citation.layout)) a b
-  in_bibliography : AreAlike (named_in_bibliography s s.bibliography) a b
+-- what the layouts of a style name, and what is answered alike to it
+record StyleAlike (w : Bool) (s : Style) (a b : Answers) : Type 0 where
+  always : AlikeIn w always_named a b
+  in_citation : AlikeIn w (named (layout_nodes s s.citation.layout)) a b
+  in_bibliography : AlikeIn w (named_in_bibliography s s.bibliography) a b
 
-style_alike : (s : Style) (a b : Answers) → AreAlike (style_named s) a b → StyleAlike s a b
+-- what a style names is what its layouts name
+pub layouts_alike : (s : Style) (a b : Answers) → AreAlike (style_named s) a b → AlikeIn (is_published s) (layouts_named s) a b
+layouts_alike s a b h = alike_in (is_published s) (layouts_named s) a b h
+
+style_alike : (s : Style) (a b : Answers) → AreAlike (style_named s) a b → StyleAlike (is_published s) s a b
 style_alike s a b h =
     let cited = named (layout_nodes s s.citation.layout) in
     let listed = named_in_bibliography s s.bibliography in
-    let more = others_alike always_named (joined_named cited listed) a b h in
-    record { always = first_alike always_named (joined_named cited listed) a b h; in_citation = first_alike cited listed a b more; in_bibliography = others_alike cited listed a b more }
+    let all = layouts_alike s a b h in
+    let more = others_alike always_named (joined_named cited listed) a b all in
+    record { always = first_alike always_named (joined_named cited listed) a b all; in_citation = first_alike cited listed a b more; in_bibliography = others_alike cited listed a b more }
 
-citation_same : (a b : Answers) (c : Context) (s : Style) (form : SpecialForm) (st : State) → StyleAlike s a b → append_citation s (with_answers a c) form st ≡ append_citation s (with_answers b c) form st
+citation_same : (a b : Answers) (c : Context) (s : Style) (form : SpecialForm) (st : State) → StyleAlike c.is_published s a b → append_citation s (with_answers a c) form st ≡ append_citation s (with_answers b c) form st
 citation_same a b c s form st h = layout_same a b c s s.citation.layout s.citation.name_options form st h.always h.in_citation
 
-surveyed_same : (a b : Answers) (c : Context) (s : Style) (form : SpecialForm) (st : State) → StyleAlike s a b → citation_survey s (with_answers a c) form st ≡ citation_survey s (with_answers b c) form st
+surveyed_same : (a b : Answers) (c : Context) (s : Style) (form : SpecialForm) (st : State) → StyleAlike c.is_published s a b → citation_survey s (with_answers a c) form st ≡ citation_survey s (with_answers b c) form st
 surveyed_same a b c s form st h = asked_same a b c s s.citation.layout s.citation.name_options form st h.always h.in_citation
 
-elsewhere_same : (a b : Answers) (c : Context) (s : Style) (form : SpecialForm) (st : State) → StyleAlike s a b → author_elsewhere s (with_answers a c) form st ≡ author_elsewhere s (with_answers b c) form st
+elsewhere_same : (a b : Answers) (c : Context) (s : Style) (form : SpecialForm) (st : State) → StyleAlike c.is_published s a b → author_elsewhere s (with_answers a c) form st ≡ author_elsewhere s (with_answers b c) form st
 elsewhere_same a b c s form st h =
     let asked = surveyed_same a b (elsewhere c) s form st h in
     λ i. if (asked i).is_admitted
@@ -141,39 +147,56 @@ author_in s c form st =
     let asked = citation_survey s c form st in
     if asked.is_admitted then append_citation s c form (noted asked.met st) else author_elsewhere s c form (noted asked.met st)
 
-author_in_same : (a b : Answers) (c : Context) (s : Style) (form : SpecialForm) (st : State) → StyleAlike s a b → author_in s (with_answers a c) form st ≡ author_in s (with_answers b c) form st
+author_in_same : (a b : Answers) (c : Context) (s : Style) (form : SpecialForm) (st : State) → StyleAlike c.is_published s a b → author_in s (with_answers a c) form st ≡ author_in s (with_answers b c) form st
 author_in_same a b c s form st h =
     let asked = surveyed_same a b c s form st h in
     λ i. if (asked i).is_admitted
     then citation_same a b c s form (noted (asked i).met st) h i
     else elsewhere_same a b c s form (noted (asked i).met st) h i
 
-author_same : (a b : Answers) (c : Context) (s : Style) (st : State) → StyleAlike s a b → append_author s (with_answers a c) st ≡ append_author s (with_answers b c) st
+author_same : (a b : Answers) (c : Context) (s : Style) (st : State) → StyleAlike c.is_published s a b → append_author s (with_answers a c) st ≡ append_author s (with_answers b c) st
 author_same a b c s st h =
-    ap (λ v. author_in s (with_answers a c) (author_only v) st) (variable_same a b c h.always)
-    ∙ author_in_same a b c s (author_only (author_variable (with_answers b c))) st h
+    ap (λ v. author_in s (with_answers a c) (if is_published s then authors_alone v else author_only v) st) (variable_same a b c h.always)
+    ∙ author_in_same a b c s (author_form s (with_answers b c)) st h
 
 -- the authors and the citation
-enclosed_same : (a b : Answers) (c : Context) (s : Style) (form : SpecialForm) (prefix suffix : List ℕ) (st : State) → StyleAlike s a b
+enclosed_same : (a b : Answers) (c : Context) (s : Style) (form : SpecialForm) (prefix suffix : List ℕ) (st : State) → StyleAlike c.is_published s a b
     → append_enclosed s (with_answers a c) form prefix suffix st ≡ append_enclosed s (with_answers b c) form prefix suffix st
 enclosed_same a b c s form prefix suffix st h =
     ap (citation_normal s c suffix) (citation_same a b c s form (citation_normal s c prefix (space_before prefix st)) h)
 
-prose_same : (a b : Answers) (c : Context) (s : Style) (st : State) → StyleAlike s a b → append_prose s (with_answers a c) st ≡ append_prose s (with_answers b c) st
+framed_same : (a b : Answers) (c : Context) (s : Style) (form : SpecialForm) (prefix suffix : List ℕ) (st : State) → StyleAlike c.is_published s a b
+    → append_framed s (with_answers a c) form prefix suffix st ≡ append_framed s (with_answers b c) form prefix suffix st
+framed_same a b c s form prefix suffix st h =
+    let spaced = spaced_frame prefix st in
+    let frame = prose_frame s prefix suffix in
+    ap (λ done. append c (end spaced ∷ []) (append c (end frame ∷ []) done))
+    (citation_same a b c s form (append c (begin frame ∷ []) (append c (begin spaced ∷ []) st)) h)
+
+between_same : (a b : Answers) (c : Context) (s : Style) (form : SpecialForm) (prefix suffix : List ℕ) (st : State) → StyleAlike c.is_published s a b
+    → append_between s (with_answers a c) form prefix suffix st ≡ append_between s (with_answers b c) form prefix suffix st
+between_same a b c s form prefix suffix st h =
+    λ i. if is_published s then framed_same a b c s form prefix suffix st h i else enclosed_same a b c s form prefix suffix st h i
+
+rest_same : (a b : Answers) (c : Context) (s : Style) → AlikeIn c.is_published always_named a b → rest_form s (with_answers a c) ≡ rest_form s (with_answers b c)
+rest_same a b c s h = ap (λ v. if is_published s then without_names v else without_author) (variable_same a b c h)
+
+prose_same : (a b : Answers) (c : Context) (s : Style) (st : State) → StyleAlike c.is_published s a b → append_prose s (with_answers a c) st ≡ append_prose s (with_answers b c) st
 prose_same a b c s st h =
     let authors = author_same a b c s st h in
+    let rest = rest_same a b c s h.always in
     λ i. if prints_identifiers s
-    then enclosed_same a b c s whole (unwrap_or s.citation.layout.prefix []) (unwrap_or s.citation.layout.suffix []) (authors i) h i
-    else enclosed_same a b c s without_author (unwrap_or s.citation.layout.prefix (open_parenthesis ∷ [])) (unwrap_or s.citation.layout.suffix (close_parenthesis ∷ [])) (authors i) h i
+    then between_same a b c s whole (unwrap_or s.citation.layout.prefix []) (unwrap_or s.citation.layout.suffix []) (authors i) h i
+    else between_same a b c s (rest i) (unwrap_or s.citation.layout.prefix (open_parenthesis ∷ [])) (unwrap_or s.citation.layout.suffix (close_parenthesis ∷ [])) (authors i) h i
 
 -- the whole item
-full_same : (a b : Answers) (c : Context) (s : Style) (verdict : Option CollapseVerdict) (o : Option Bibliography) → StyleAlike s a b → AreAlike (named_in_bibliography s o) a b
+full_same : (a b : Answers) (c : Context) (s : Style) (verdict : Option CollapseVerdict) (o : Option Bibliography) → StyleAlike c.is_published s a b → AlikeIn c.is_published (named_in_bibliography s o) a b
     → full_of s (with_answers a c) verdict o ≡ full_of s (with_answers b c) verdict o
 full_same a b c s verdict None h k = ap (rendered c.quotes) (citation_same a b c s (form_of verdict) (begun_in s) h)
 full_same a b c s verdict (Some y) h k =
     ap (rendered_aligned c.quotes y.second_field_align) (layout_same a b c s y.layout y.name_options whole (begun_in s) h.always k)
 
-purpose_same : (a b : Answers) (c : Context) (s : Style) (verdict : Option CollapseVerdict) (purpose : Option CitePurpose) → StyleAlike s a b
+purpose_same : (a b : Answers) (c : Context) (s : Style) (verdict : Option CollapseVerdict) (purpose : Option CitePurpose) → StyleAlike c.is_published s a b
     → rendered_for s (with_answers a c) verdict purpose ≡ rendered_for s (with_answers b c) verdict purpose
 purpose_same a b c s verdict None h = ap (rendered c.quotes) (citation_same a b c s (form_of verdict) (begun_in s) h)
 purpose_same a b c s verdict (Some purposes.Author) h = ap (rendered c.quotes) (author_same a b c s (begun_in s) h)
@@ -185,7 +208,7 @@ pub cites_alike : AlikeCitesAreOne
 cites_alike x a b p locale purpose verdict h = purpose_same a b (context_of x locale false a p) x.style verdict purpose (style_alike x.style a b h)
 
 -- an item of the bibliography
-item_same : (a b : Answers) (c : Context) (s : Style) (o : Option Bibliography) → AreAlike always_named a b → AreAlike (named_in_bibliography s o) a b
+item_same : (a b : Answers) (c : Context) (s : Style) (o : Option Bibliography) → AlikeIn c.is_published always_named a b → AlikeIn c.is_published (named_in_bibliography s o) a b
     → option_map (item_of s (with_answers a c)) o ≡ option_map (item_of s (with_answers b c)) o
 item_same a b c s None g h = refl
 item_same a b c s (Some y) g h =

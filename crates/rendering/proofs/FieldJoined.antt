@@ -9,6 +9,7 @@ use Rattle.rendering_tree.specs.declared.element.Elem.{Elem}
 use Rattle.rendering_tree.specs.declared.element.ElemChild.{ElemChild}
 use Rattle.rendering_tree.specs.declared.element.ElemChild.TheVariants as parts
 use Rattle.rendering_tree.proofs.ViewsLevels.{child-Elem}
+use Rattle.rendering_taxonomy.specs.declared.page.PageRule.{PageRule}
 use Rattle.rendering.specs.Purposes.{in_front}
 
 -- a field stands before others
@@ -16,6 +17,6 @@ pub before_others : (xs ys : List ElemChild) (e : Elem) → ys ≡ parts.Elem e 
 before_others xs ys e is = ap (λ zs. flat (children_view zs)) is ∙ ap (λ x. flat (children_view xs) ++ flat_child x) (child-Elem e)
 
 -- where no element stands for something the tree is as it was
-pub none_in_front : (p : Parted) (ts : List Token) (whole new : Children) → None ≡ taken p → new ≡ left p whole → tree_of ts ≡ whole → new ≡ in_front ts p
-none_in_front None ts whole new none rest same = rest ∙ sym same
-none_in_front (Some q) ts whole new none rest same = absurd (true≢false (ap is_some (sym none)))
+pub none_in_front : (rule : PageRule) (p : Parted) (ts : List Token) (whole new : Children) → None ≡ taken p → new ≡ left p whole → tree_of ts ≡ whole → new ≡ in_front rule ts p
+none_in_front rule None ts whole new none rest same = rest ∙ sym same
+none_in_front rule (Some q) ts whole new none rest same = absurd (true≢false (ap is_some (sym none)))

@@ -3,9 +3,9 @@ use Rattle.std.specs.Prelude.{◌≡◌, ℕ, List, Option, Some, None}
 use Rattle.rendering_entries.specs.Answers.{Answers}
 use Rattle.rendering_style.specs.Styles.{Bibliography, Style}
 use Rattle.rendering_context.specs.Cites.{CiteProperties}
-use Rattle.rendering_nodes.specs.Named.{Named, AreAlike, joined_named, always_named, named, none_named}
+use Rattle.rendering_nodes.specs.Named.{Named, AreAlike, as_printed, joined_named, always_named, named, none_named}
 use Rattle.rendering_context.specs.Contexts.{StyleContext}
-use Rattle.rendering.specs.Purposes.{layout_nodes, citation, bibliography}
+use Rattle.rendering.specs.Purposes.{layout_nodes, citation, bibliography, is_published}
 use Rattle.rendering_taxonomy.specs.declared.cite.CitePurpose.{CitePurpose}
 use Rattle.rendering_taxonomy.specs.declared.cite.CollapseVerdict.{CollapseVerdict}
 
@@ -15,8 +15,14 @@ named_in_bibliography s None = none_named
 named_in_bibliography s (Some b) = named (layout_nodes s b.layout)
 
 -- what stands in the layouts of a style and in the macros that they reach, and what every style names
+abbrev pub layouts_named : Style → Named
+layouts_named s =
+    joined_named always_named (joined_named (named (layout_nodes s s.citation.layout))
+    (named_in_bibliography s s.bibliography))
+
+-- the same, where it counts how numbers and pages were written if the style is a published one
 abbrev pub style_named : Style → Named
-style_named s = joined_named always_named (joined_named (named (layout_nodes s s.citation.layout)) (named_in_bibliography s s.bibliography))
+style_named s = as_printed (is_published s) (layouts_named s)
 
 -- this holds of all answers that are alike to these in what a style names
 abbrev pub ForAlikeAnswers : Style → Answers → (Answers → Type 0) → Type 0

@@ -4,3 +4,4 @@ pub mod Alike
 pub mod Views
 pub mod Ends
 pub mod AuthorNodes
+pub mod LeftOpen

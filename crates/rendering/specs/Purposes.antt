@@ -12,7 +12,7 @@ use Rattle.rendering_locale.specs.Lookup.{term}
 use Rattle.literature_values.specs.declared.date.Date.{Date}
 use Rattle.rendering_dates.specs.Dates.{years_text}
 use Rattle.rendering_page.specs.Joints.{joined}
-use Rattle.rendering_page.specs.Pages.{Page, Manner, Quotes, Frame, append_space, empty_page_by}
+use Rattle.rendering_page.specs.Pages.{Page, is_joined, Manner, Quotes, Frame, append_space, empty_page_by, prints}
 use Rattle.rendering_page.specs.Pieces.{normal, begin, end}
 use Rattle.rendering_page.specs.PageCharacters.{plain_manner}
 use Rattle.rendering_entries.specs.Answers.{Answers}
@@ -24,7 +24,7 @@ use Rattle.rendering_people.specs.Properties.{Properties}
 use Rattle.rendering_names.specs.Around.{not_overriding}
 use Rattle.rendering_context.specs.Cites.{CiteProperties, year_suffix_of}
 use Rattle.rendering_context.specs.Contexts.{Context, StyleContext}
-use Rattle.rendering_leaves.specs.NodeSettings.{SpecialForm, whole, author_only, without_author, first_date_only, suffix_only, NodeSetting, State, begun, append, noted}
+use Rattle.rendering_leaves.specs.NodeSettings.{SpecialForm, whole, author_only, without_author, first_date_only, suffix_only, authors_alone, without_names, NodeSetting, State, begun, append, noted}
 use Rattle.rendering_context.specs.Answering.{has_answer, is_english}
 use Rattle.rendering_nodes.specs.Admission.{Survey, surveys}
 use Rattle.rendering_nodes.specs.Content.{stage, contents}
@@ -37,6 +37,7 @@ use Rattle.rendering_taxonomy.specs.declared.cite.CollapseVerdict.TheVariants as
 use Rattle.rendering_taxonomy.specs.declared.cite.IbidState.TheVariants as ibids
 use Rattle.rendering_taxonomy.specs.declared.cite.IdentifierUsage.{IdentifierUsage}
 use Rattle.rendering_taxonomy.specs.declared.cite.IdentifierUsage.TheVariants as usages
+use Rattle.rendering_taxonomy.specs.declared.page.PageRule.{PageRule}
 use Rattle.rendering_taxonomy.specs.declared.style.SecondFieldAlign.{SecondFieldAlign}
 use Rattle.rendering_taxonomy.specs.declared.style.StyleCategory.{StyleCategory}
 use Rattle.rendering_taxonomy.specs.declared.style.StyleCategory.TheVariants as categories
@@ -52,6 +53,10 @@ use Rattle.rendering_taxonomy.specs.declared.variable.Variable.TheVariants as va
 -- the nodes of a layout with their macros opened
 abbrev pub layout_nodes : Style → Layout → Nodes
 layout_nodes s l = opened_nodes s.macros l.nodes
+
+-- whether a style is a published one: the texts of its pages are joined
+abbrev pub is_published : Style → Bool
+is_published s = is_joined s.page_rule
 
 -- whether a layout of the style prints the year suffix by itself
 unfoldable pub prints_suffix : Style → Bool
@@ -69,6 +74,7 @@ in_words s answers properties words year_suffix is_bibliography = record {
   has_suffix_node = prints_suffix s;
   page_ranges = s.page_ranges;
   in_english = words.are_english;
+  is_published = is_joined s.page_rule;
 }
 
 -- what a call prints from
@@ -179,10 +185,14 @@ author_elsewhere s c form st =
     let asked = citation_survey s (elsewhere c) form st in
     if asked.is_admitted then append_citation s (elsewhere c) form (noted asked.met st) else author_last s c form s.bibliography (noted asked.met st)
 
+-- the authors alone; in a published style without the affixes of nodes round them
+abbrev pub author_form : Style → Context → SpecialForm
+author_form s c = if is_published s then authors_alone (author_variable c) else author_only (author_variable c)
+
 -- The authors: from the layout of the citation, where they are admitted there, else from one of the others.
 abbrev pub append_author : Style → Context → State → State
 append_author s c st =
-    let form = author_only (author_variable c) in
+    let form = author_form s c in
     let asked = citation_survey s c form st in
     if asked.is_admitted then append_citation s c form (noted asked.met st) else author_elsewhere s c form (noted asked.met st)
 
@@ -209,12 +219,43 @@ space_before cs st = if begins_spaced cs then st else record st { page = append_
 abbrev pub append_enclosed : Style → Context → SpecialForm → List ℕ → List ℕ → State → State
 append_enclosed s c form prefix suffix st = citation_normal s c suffix (append_citation s c form (citation_normal s c prefix (space_before prefix st)))
 
+-- an element that is removed if nothing is printed in it
+abbrev pub in_element : Context → Frame → (State → State) → State → State
+in_element c f inside st = append c (end f ∷ []) (inside (append c (begin f ∷ []) st))
+
+-- the element round what comes after the authors: a space before it, unless nothing was printed or a text follows that begins with white space
+abbrev pub spaced_frame : List ℕ → State → Frame
+spaced_frame cs st = record {
+  display = None;
+  meta = None;
+  manner = plain_manner;
+  prefix = if not (begins_spaced cs) && prints 0 st.page.tokens then space ∷ [] else [];
+  suffix = [];
+}
+
+-- the element round the citation in prose
+abbrev pub prose_frame : Style → List ℕ → List ℕ → Frame
+prose_frame s prefix suffix = record { display = None; meta = None; manner = layout_manner s.citation.layout; prefix = prefix; suffix = suffix }
+
+-- a form of the citation between two texts, after a space; nothing where the citation prints nothing
+abbrev pub append_framed : Style → Context → SpecialForm → List ℕ → List ℕ → State → State
+append_framed s c form prefix suffix st = in_element c (spaced_frame prefix st) (in_element c (prose_frame s prefix suffix) (append_citation s c form)) st
+
+-- a form of the citation between two texts
+abbrev pub append_between : Style → Context → SpecialForm → List ℕ → List ℕ → State → State
+append_between s c form prefix suffix st =
+    if is_published s then append_framed s c form prefix suffix st else append_enclosed s c form prefix suffix st
+
+-- the citation without the authors; in a published style nothing stands for these
+abbrev pub rest_form : Style → Context → SpecialForm
+rest_form s c = if is_published s then without_names (author_variable c) else without_author
+
 -- the authors, then the citation in its affixes; where cites are no numbers or labels, without the authors and in parentheses if not in affixes
 abbrev pub append_prose : Style → Context → State → State
 append_prose s c st =
     if prints_identifiers s
-    then append_enclosed s c whole (unwrap_or s.citation.layout.prefix []) (unwrap_or s.citation.layout.suffix []) (append_author s c st)
-    else append_enclosed s c without_author (unwrap_or s.citation.layout.prefix (open_parenthesis ∷ [])) (unwrap_or s.citation.layout.suffix (close_parenthesis ∷ [])) (append_author s c st)
+    then append_between s c whole (unwrap_or s.citation.layout.prefix []) (unwrap_or s.citation.layout.suffix []) (append_author s c st)
+    else append_between s c (rest_form s c) (unwrap_or s.citation.layout.prefix (open_parenthesis ∷ [])) (unwrap_or s.citation.layout.suffix (close_parenthesis ∷ [])) (append_author s c st)
 
 -- what collapsing leaves of a cite
 abbrev pub form_of : Option CollapseVerdict → SpecialForm
@@ -222,15 +263,19 @@ form_of None = whole
 form_of (Some verdicts.First) = first_date_only
 form_of (Some verdicts.YearSuffix) = suffix_only
 
--- the first field of an item stands in front, with a space after it
-abbrev pub in_front : List Token → Parted → Children
-in_front ts None = tree_of ts
-in_front ts (Some (e, others)) = tree_of (flat others ++ with_letter_after space (flat_child (Elem e.display e.meta e.children)))
+-- a space after a first field in front; on a page that joins texts what the style says parts it from the others
+abbrev pub parted_off : PageRule → List Token → List Token
+parted_off rule ts = if is_joined rule then ts else with_letter_after space ts
+
+-- the first field of an item stands in front
+abbrev pub in_front : PageRule → List Token → Parted → Children
+in_front rule ts None = tree_of ts
+in_front rule ts (Some (e, others)) = tree_of (flat others ++ parted_off rule (flat_child (Elem e.display e.meta e.children)))
 
 -- an item whose second field is aligned has its first field in front
 abbrev pub fields_joined : Option SecondFieldAlign → Page → Children
 fields_joined None p = tree_of p.tokens
-fields_joined (Some align) p = in_front p.tokens (parted (tree_of p.tokens))
+fields_joined (Some align) p = in_front p.rule p.tokens (parted (tree_of p.tokens))
 
 -- which identifiers were printed
 abbrev pub usage_by : Bool → Bool → IdentifierUsage
@@ -253,7 +298,7 @@ rendered_as tree st = record { tree = tree; met_disambiguate = st.met_disambigua
 
 -- the state before anything was appended, on a page by the style's rule
 abbrev pub begun_in : Style → State
-begun_in s = record begun { page = empty_page_by s.page_rule }
+begun_in s = record begun { page = empty_page_by s.page_rule; is_published = is_published s }
 
 -- a page once all is appended: where its rule says so, texts are joined; punctuation goes inside quotes if there are some for that
 abbrev pub completed : Quotes → Page → Page

@@ -1,11 +1,11 @@
 -- The words of a call.
-use Rattle.std.specs.Prelude.{ℕ, Bool, List, Option}
+use Rattle.std.specs.Prelude.{ℕ, Bool, List, if◌then◌else◌, Option, Some, None}
 use Rattle.std.specs.Option.{option_or}
 use Rattle.rendering_context.specs.Contexts.{StyleContext}
 use Rattle.rendering_entries.specs.Library.{is_english}
 use Rattle.rendering_locale.specs.Locales.{Locale}
 use Rattle.rendering_locale.specs.Lookup.{asked, language, close_quotes}
-use Rattle.rendering_page.specs.Pages.{Quotes}
+use Rattle.rendering_page.specs.Pages.{Quotes, is_joined}
 use Rattle.rendering_page.specs.Views.{quotes_view}
 use Rattle.rendering.specs.declared.locale_words.Words.{Words}
 
@@ -30,6 +30,10 @@ words_of x term_locale = record {
   quotes = close_quotes (locales_of x term_locale);
   are_english = is_english (language_of x term_locale);
 }
+
+-- where a style joins texts, the close quotes inside which punctuation goes in the words of a call that asks for no language
+abbrev pub joining_quotes : StyleContext → Option Quotes
+joining_quotes x = if is_joined x.style.page_rule then Some (words_of x None).quotes else None
 
 -- words without where they lie in memory
 abbrev pub words_view : Words → CallWords

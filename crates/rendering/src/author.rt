@@ -5,10 +5,11 @@ ghost use Rattle.std.specs.Option.{option_map};
 ghost use Rattle.rendering_context.specs.Views.{cite_properties_view};
 ghost use Rattle.rendering_leaves.specs.Views.{form_view};
 ghost use Rattle.rendering_style.specs.Views.{bibliography_layout_view};
-ghost use Rattle.rendering.specs.Purposes.{author_elsewhere, author_last, append_author, author_variable};
+ghost use Rattle.rendering.specs.Purposes.{author_elsewhere, author_form, author_last, append_author, author_variable};
 ghost use Rattle.rendering.specs.Views.{context_in, style_of};
 
 use crate::call::Call;
+use crate::layout::is_published;
 use rendering_context::{CiteProperties, Context};
 use rendering_entries::EntryLike;
 use rendering_leaves::{SpecialForm, State};
@@ -28,7 +29,7 @@ impl<'s, 'a> Call<'s, 'a> {
         ensures { OnOk result (state.new ≡ append_author (style_of self.now)
             (context_in (E.answers entry.entry.now) self.now) state.old) }
     {
-        let form = SpecialForm::AuthorOnly(self.author_variable(entry)?);
+        let form = self.author_form(entry)?;
         if self.admits_citation(entry, form, state)? {
             self.push_citation(entry, form, state)
         } else {
@@ -36,8 +37,23 @@ impl<'s, 'a> Call<'s, 'a> {
         }
     }
 
+    /// The form of the authors alone, in a published style without the affixes of nodes round them.
+    fn author_form<E: EntryLike>(&self, entry: &'a E) -> Result<SpecialForm, AllocError>
+        ensures { IfOk result (λ f. form_view f ≡ author_form (style_of self.now)
+            (context_in (E.answers entry.entry.now) self.now)) }
+    {
+        let variable = self.author_variable(entry)?;
+        if is_published(self.walk.style) {
+            return Ok(SpecialForm::AuthorsAlone(variable));
+        }
+        Ok(SpecialForm::AuthorOnly(variable))
+    }
+
     /// The variable whose people are the authors: the editors stand for authors that are missing.
-    fn author_variable<E: EntryLike>(&self, entry: &'a E) -> Result<NameVariable, AllocError>
+    pub(crate) fn author_variable<E: EntryLike>(
+        &self,
+        entry: &'a E,
+    ) -> Result<NameVariable, AllocError>
         ensures { IfOk result (λ v. v
             ≡ author_variable (context_in (E.answers entry.entry.now) self.now)) }
     {

@@ -10,13 +10,14 @@ ghost use Rattle.rendering_style.specs.Options.{NameOptions as Options, options_
 ghost use Rattle.rendering_style.specs.Styles.{Style as Styled};
 ghost use Rattle.rendering_style.specs.StyleViews.{style_view};
 ghost use Rattle.rendering_style.specs.Views.{bibliography_layout_view, layout_view, options_view, style_parts_view};
-ghost use Rattle.rendering.specs.Purposes.{citation_options, layout_frame, layout_manner, layout_nodes, prints_suffix, setting_of};
+ghost use Rattle.rendering.specs.Purposes.{citation_options, is_published, layout_frame, layout_manner, layout_nodes, prints_suffix, setting_of};
 
 use rendering_leaves::{NodeSetting, SpecialForm};
 use rendering_names::{NamesAround, ResolvedNameOptions};
 use rendering_nodes::has_suffix;
 use rendering_page::{Frame, Manner, plain_manner};
 use rendering_style::{Bibliography, Layout, NameOptions, Style, StyleParts};
+use rendering_taxonomy::PageRule;
 use texts::text_or_empty;
 
 /// How a layout's own texts are appended.
@@ -85,6 +86,16 @@ pub(crate) fn layout_frame<'a>(layout: &'a Layout) -> Frame<'a>
         manner: layout_manner(layout),
         prefix: text_or_empty(&layout.prefix),
         suffix: text_or_empty(&layout.suffix),
+    }
+}
+
+/// Whether a style is a published one: the texts of its pages are joined.
+pub fn is_published(style: &Style) -> bool
+    ensures { result ≡ is_published (style_view style.now) }
+{
+    match style.parts().page_rule {
+        PageRule::Joined => true,
+        PageRule::AsWritten => false,
     }
 }
 

@@ -18,7 +18,9 @@ mod year;
 
 pub use cite_laws::alike_cites_are_one;
 pub use cite_laws::alike_items_are_one;
+pub use cite_laws::styles_enclose_as_written;
 pub use effort::Effort;
+pub use layout::is_published;
 pub use locale_words::Words;
 pub use locale_words::YearSuffixText;
 pub use rendered::Rendering;

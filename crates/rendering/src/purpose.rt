@@ -7,7 +7,7 @@ ghost use Rattle.rendering.specs.Purposes.{begun_in, form_of, full_of, append_it
 ghost use Rattle.rendering.specs.Views.{context_in, rendering_view, style_of};
 
 use crate::call::Call;
-use crate::layout::layout_frame;
+use crate::layout::{is_published, layout_frame};
 use crate::rendered::{Rendering, rendered, rendered_aligned};
 use rendering_entries::EntryLike;
 use rendering_leaves::{SpecialForm, State};
@@ -133,6 +133,7 @@ impl<'s, 'a> Call<'s, 'a> {
         let alloc = self.walk.context.alloc;
         let mut state = State::new(alloc);
         state.page = Page::with_rule(alloc, self.walk.style.parts().page_rule);
+        state.is_published = is_published(self.walk.style);
         state
     }
 

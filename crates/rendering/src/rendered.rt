@@ -50,6 +50,8 @@ pub(crate) fn rendered_aligned(
         names,
         used_label,
         used_number,
+        is_published: _,
+        printed: _,
     } = state;
     let tree = joined_tree(completed(quotes, page)?, align)?;
     Ok(Rendering {

@@ -7,7 +7,9 @@ ghost use Rattle.rendering_tree.specs.Tokens.{Token, with_letter_after, with_let
 ghost use Rattle.rendering_tree.specs.Trees.{Elem as Element, flat, flat_child, parted, tree_of};
 ghost use Rattle.rendering_tree.specs.Views.{child_view, element_view, children_view, tree_view};
 ghost use Rattle.rendering.specs.Ends.{has_end};
-ghost use Rattle.rendering.specs.Purposes.{fields_joined, in_front};
+ghost use Rattle.rendering_page.specs.Pages.{is_joined as joins};
+ghost use Rattle.rendering_taxonomy.specs.declared.page.PageRule.{PageRule};
+ghost use Rattle.rendering.specs.Purposes.{fields_joined, in_front, parted_off};
 
 use rendering_building::into_tree;
 use rendering_page::Page;
@@ -24,33 +26,52 @@ pub(crate) fn joined_tree(
 ) -> Result<ElemChildren, AllocError>
     ensures { IfOk result (λ t. tree_view t ≡ fields_joined align page.entry) }
 {
+    let is_joined = page.is_joined();
     let tree = into_tree(page)?;
     match align {
-        Some(_) => in_front(tree),
+        Some(_) => in_front(is_joined, tree),
         None => Ok(tree),
     }
 }
 
-/// A tree with its first field in front, and a space after that.
-fn in_front(whole: ElemChildren) -> Result<ElemChildren, AllocError>
-    ensures { (ts : List Token) → tree_of ts ≡ tree_view whole
-        → IfOk result (λ t. tree_view t ≡ in_front ts (parted (tree_view whole))) }
+/// A tree with its first field in front, and a space after that where texts are not joined.
+fn in_front(is_joined: bool, whole: ElemChildren) -> Result<ElemChildren, AllocError>
+    ensures { (rule : PageRule) (ts : List Token) → is_joined ≡ joins rule
+        → tree_of ts ≡ tree_view whole
+        → IfOk result (λ t. tree_view t ≡ in_front rule ts (parted (tree_view whole))) }
 {
     let mut others = whole;
     match others.remove_any_meta() {
-        Some(field) => spaced_before(field, others),
+        Some(field) => parted_before(is_joined, field, others),
         None => Ok(others),
     }
 }
 
-/// A field with a space after it before others, in the normal form.
-fn spaced_before(field: Elem, others: ElemChildren) -> Result<ElemChildren, AllocError>
-    ensures { IfOk result (λ t. tree_view t
-        ≡ tree_of (flat (tree_view others) ++ with_letter_after space (flat_child (Element
+/// A field before others, in the normal form, and a space between them where texts are not joined.
+fn parted_before(
+    is_joined: bool,
+    field: Elem,
+    others: ElemChildren,
+) -> Result<ElemChildren, AllocError>
+    ensures { (rule : PageRule) → is_joined ≡ joins rule → IfOk result (λ t. tree_view t
+        ≡ tree_of (flat (tree_view others) ++ parted_off rule (flat_child (Element
         (element_view field).display (element_view field).meta (element_view field).children)))) }
 {
-    let field = spaced(field)?;
+    let field = parted_off(is_joined, field)?;
     simplify_children(both(field, others)?)
+}
+
+/// A field, with a space after it where texts are not joined.
+fn parted_off(is_joined: bool, field: Elem) -> Result<Elem, AllocError>
+    ensures { (rule : PageRule) → is_joined ≡ joins rule → IfOk result (λ e. flat_child
+        (Element (element_view e).display (element_view e).meta (element_view e).children)
+        ≡ parted_off rule (flat_child (Element (element_view field).display
+        (element_view field).meta (element_view field).children))) }
+{
+    if is_joined {
+        return Ok(field);
+    }
+    spaced(field)
 }
 
 /// A field before other children.

@@ -6,15 +6,17 @@ ghost use Rattle.laws.specs.Text.{characters};
 ghost use Rattle.rendering_locale.specs.CodeViews.{borrowed_code_view};
 ghost use Rattle.rendering_locale.specs.Views.{locale_view};
 ghost use Rattle.rendering_names.specs.Views.{resolved_options_view};
+ghost use Rattle.rendering_page.specs.Pages.{is_joined};
 ghost use Rattle.rendering_style.specs.StyleViews.{style_view};
 ghost use Rattle.rendering.specs.Alike.{ForAlikeAnswers};
 ghost use Rattle.rendering.specs.Purposes.{citation_options, prints_suffix};
-ghost use Rattle.rendering.specs.Words.{words_of, words_view};
+ghost use Rattle.rendering_page.specs.Views.{quotes_view};
+ghost use Rattle.rendering.specs.Words.{joining_quotes, words_of, words_view};
 
 use crate::author_node::AuthorNode;
 use crate::call::Call;
 use crate::effort::Effort;
-use crate::layout::{citation_options, prints_suffix};
+use crate::layout::{citation_options, is_published, prints_suffix};
 use crate::locale_words::{Words, YearSuffixText};
 use crate::rendered::Rendering;
 use rendering_context::{CiteProperties, Context};
@@ -297,6 +299,18 @@ impl<'a> StyleContext<'a> {
         words_in(self.alloc, self.style, code, self.locale_files)
     }
 
+    /// Where the style joins texts, the close quotes inside which punctuation goes in the words of a call that asks for no language.
+    pub fn joining_quotes(&self) -> Option<&[&str]>
+        ensures { option_map (λ q. quotes_view q.now) result
+            ≡ joining_quotes (style_context_view self.now) }
+    {
+        if is_published(self.style) {
+            Some(self.own_words.quotes.as_slice())
+        } else {
+            None
+        }
+    }
+
     /// What a caller prints from by itself: as in a cite, or in an item of a bibliography, with these properties, in these words and with
     /// this year suffix.
     pub fn walk<'s, 'c>(
@@ -322,6 +336,7 @@ impl<'a> StyleContext<'a> {
             has_suffix_node: self.has_suffix_node,
             page_ranges: page_ranges(self.style),
             in_english: words.are_english,
+            is_published: is_published(self.style),
         };
         Walk {
             context,

@@ -11,6 +11,7 @@ use Rattle.rendering_taxonomy.specs.declared.date.LongShortForm.{LongShortForm}
 use Rattle.rendering_taxonomy.specs.declared.date.LongShortForm.TheVariants as forms
 use Rattle.rendering_taxonomy.specs.declared.kind.Kind.{Kind}
 use Rattle.rendering_taxonomy.specs.declared.variable.StandardVariable.{StandardVariable}
+use Rattle.rendering_taxonomy.specs.declared.variable.Variable.{Variable}
 use Rattle.rendering_taxonomy.specs.declared.variable.Variable.TheVariants as variables
 use Rattle.rendering_alike.specs.Naming.{NameTheSame}
 
@@ -25,11 +26,22 @@ module _ (n : Named) (a b : Answers) where
   abbrev KindAlike : Kind → Type 0
   KindAlike k = a.kind k ≡ b.kind k
 
-  pub all_alike : (so : Bool) → a.english ≡ b.english → AllByRecursion KindAlike n.kinds → (IsTrue so ↔ AllByRecursion (AnswerAlike a b) n.variables) → IsTrue so ↔ AreAlike n a b
-  all_alike so english kinds variables = (
-    λ is. record { variables = (each_member (AnswerAlike a b) n.variables).1 (variables.0 is); kinds = (each_member KindAlike n.kinds).1 kinds; english = english },
-    λ alike. variables.1 ((each_member (AnswerAlike a b) n.variables).0 alike.variables),
+  abbrev OneText : Variable → Type 0
+  OneText v = a.written v ≡ b.written v
+
+  pub all_alike : (so : Bool) → a.english ≡ b.english → AllByRecursion KindAlike n.kinds → AllByRecursion (AnswerAlike a b) n.variables → (IsTrue so ↔ AllByRecursion OneText n.written) → IsTrue so ↔ AreAlike n a b
+  all_alike so english kinds variables written = (
+    λ is. record {
+      variables = (each_member (AnswerAlike a b) n.variables).1 variables;
+      written = (each_member OneText n.written).1 (written.0 is);
+      kinds = (each_member KindAlike n.kinds).1 kinds;
+      english = english;
+    },
+    λ alike. written.1 ((each_member OneText n.written).0 alike.written),
   )
+
+  pub not_each_alike : (AllByRecursion (AnswerAlike a b) n.variables → ⊥) → IsTrue false ↔ AreAlike n a b
+  not_each_alike never = (λ is. absurd (true≢false (sym is)), λ alike. absurd (never ((each_member (AnswerAlike a b) n.variables).0 alike.variables)))
 
   pub not_all_alike : (AllByRecursion KindAlike n.kinds → ⊥) → IsTrue false ↔ AreAlike n a b
   not_all_alike never = (λ is. absurd (true≢false (sym is)), λ alike. absurd (never ((each_member KindAlike n.kinds).0 alike.kinds)))
@@ -40,8 +52,18 @@ module _ (n : Named) (a b : Answers) where
   -- the same where as much is named, in another order or more often
   pub alike_same : (m : Named) → NameTheSame n m → AreAlike n a b ↔ AreAlike m a b
   alike_same m same = (
-    λ h. record { variables = λ v has. h.variables v ((same.variables v).1 has); kinds = λ k has. h.kinds k ((same.kinds k).1 has); english = h.english },
-    λ h. record { variables = λ v has. h.variables v ((same.variables v).0 has); kinds = λ k has. h.kinds k ((same.kinds k).0 has); english = h.english },
+    λ h. record {
+      variables = λ v has. h.variables v ((same.variables v).1 has);
+      written = λ v has. h.written v ((same.written v).1 has);
+      kinds = λ k has. h.kinds k ((same.kinds k).1 has);
+      english = h.english;
+    },
+    λ h. record {
+      variables = λ v has. h.variables v ((same.variables v).0 has);
+      written = λ v has. h.written v ((same.written v).0 has);
+      kinds = λ k has. h.kinds k ((same.kinds k).0 has);
+      english = h.english;
+    },
   )
 
 -- a text in both forms

@@ -1,12 +1,13 @@
 -- What was gathered are the same variables and kinds as those that are named, each once.
 use Rattle.std.proofs.Common.{◌≡◌, ◌↔◌, ◌<◌, ℕ, zero, suc, Bool, true, false, ◌&&◌, cond, ◌⊎◌, inl, inr, List, [], ◌∷◌, ◌++◌, length, get_or, refl, sym, ap, subst, ◌∙◌, arith, rules}
-use Rattle.std.specs.Prelude.{Contains, fold}
+use Rattle.std.specs.Prelude.{Contains, fold, if◌then◌else◌}
 use Rattle.std.specs.List.{list_any}
 use Rattle.std.proofs.lemmas.List.Elements.{Contains-append_left, Contains-append_right, Contains-append_cases, Contains-push, Contains-push_cases}
 use Rattle.std.proofs.lemmas.List.Folds.{Any-from_list_any}
 use denote.Enum.Bare.{same_true}
 use Rattle.rendering_context.proofs.VariablesIndices.{same_variable}
-use Rattle.rendering_nodes.specs.Named.{Named, joined_named}
+use Rattle.rendering_leaves.specs.NodeSettings.{with_variable}
+use Rattle.rendering_nodes.specs.Named.{Named, as_printed, joined_named}
 use Rattle.rendering_nodes.proofs.FindingsKnown.{one_list}
 use Rattle.rendering_taxonomy.specs.Variables.{is_variable}
 use Rattle.rendering_taxonomy.specs.contracts.kind.Kind.{the_type}
@@ -73,8 +74,14 @@ one_variable v w is = sym (ap (λ vs. get_or vs 0 v) (one_list (w ∷ []) (v ∷
 one_kind : (k l : Kind) → kind_eq.ghosts.eq l k ≡ true → k ≡ l
 one_kind k l is = sym (same_true the_type (search rules) l k is)
 
-pub joined_members : (n m : Named) → NameTheSame (with_named n m) (joined_named n m)
-joined_members n m = record {
+-- what is in a list is in another where it counts, and where it does not
+counted : (p : Bool) (xs ys : List Variable) → ((v : Variable) → Contains xs v ↔ Contains ys v) → (v : Variable) → Contains (if p then xs else []) v ↔ Contains (if p then ys else []) v
+counted true xs ys same v = same v
+counted false xs ys same v = (λ h. h, λ h. h)
+
+pub joined_members : (p : Bool) (n m : Named) → NameTheSame (as_printed p (with_named n m)) (as_printed p (joined_named n m))
+joined_members p n m = record {
   variables = members is_variable one_variable n.variables m.variables;
   kinds = members (λ k l. kind_eq.ghosts.eq l k) one_kind n.kinds m.kinds;
+  written = counted p (fold with_variable n.variables m.variables) (n.variables ++ m.variables) (members is_variable one_variable n.variables m.variables);
 }

@@ -23,7 +23,7 @@ use Rattle.rendering_alike.specs.Naming.{people_named, with_kind, with_named}
 
 -- all that two name, one after the other
 pub both_named : (n a b : Named) → with_named n (joined_named a b) ≡ with_named (with_named n a) b
-both_named n a b = λ i. record {
+both_named n a b = λ i. record n {
   variables = fold-append with_variable n.variables a.variables b.variables i;
   kinds = fold-append with_kind n.kinds a.kinds b.kinds i;
 }

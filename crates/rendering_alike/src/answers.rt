@@ -6,7 +6,9 @@ ghost use Rattle.rendering_nodes.specs.Named.{AnswerAlike, AreAlike};
 ghost use Rattle.rendering_taxonomy.specs.declared.variable.Variable.TheVariants as variables;
 ghost use Rattle.rendering_alike.specs.Naming.{names_view};
 
-use crate::equal::{are_one_date, are_one_list, are_one_number, are_one_range, are_one_text};
+use crate::equal::{
+    are_one_date, are_one_list, are_one_number, are_one_range, are_one_text, are_one_writing,
+};
 use crate::names::StyleNames;
 use rendering_entries::EntryLike;
 use rendering_taxonomy::{
@@ -34,7 +36,10 @@ pub fn answer_alike<E: EntryLike>(
     if !are_of_one_kind(&names.kinds, one, other) {
         return Ok(false);
     }
-    answer_all_alike(alloc, &names.variables, one, other)
+    if !answer_all_alike(alloc, &names.variables, one, other)? {
+        return Ok(false);
+    }
+    are_all_written_alike(alloc, &names.written, one, other)
 }
 
 /// Whether two entries say the same of whether they are in English.
@@ -76,6 +81,24 @@ fn answer_all_alike<E: EntryLike>(
 {
     for variable in variables {
         if !answer_one_alike(alloc, *variable, one, other)? {
+            return Ok(false);
+        }
+    }
+    Ok(true)
+}
+
+/// Whether the numbers and pages of two entries that these variables are were written alike.
+fn are_all_written_alike<E: EntryLike>(
+    alloc: Global,
+    variables: &[Variable],
+    one: &E,
+    other: &E,
+) -> Result<bool, AllocError>
+    ensures { IfOk result (λ yes. IsTrue yes ↔ AllByRecursion
+        (λ v. (E.answers one.now).written v ≡ (E.answers other.now).written v) variables.now) }
+{
+    for variable in variables {
+        if !are_written_alike(alloc, *variable, one, other)? {
             return Ok(false);
         }
     }
@@ -156,6 +179,21 @@ fn have_one_range<E: EntryLike>(alloc: Global, one: &E, other: &E) -> Result<boo
     let pages = one.resolve_page_variable(alloc)?;
     let other_pages = other.resolve_page_variable(alloc)?;
     Ok(are_one_range(&pages, &other_pages))
+}
+
+/// Whether the number or the pages of two entries are written as one text, or of neither a text is known.
+fn are_written_alike<E: EntryLike>(
+    alloc: Global,
+    variable: Variable,
+    one: &E,
+    other: &E,
+) -> Result<bool, AllocError>
+    ensures { IfOk result (λ yes. IsTrue yes
+        ↔ ((E.answers one.now).written variable ≡ (E.answers other.now).written variable)) }
+{
+    let text = one.resolve_written(alloc, variable)?;
+    let other_text = other.resolve_written(alloc, variable)?;
+    Ok(are_one_writing(&text, &other_text))
 }
 
 /// Whether two entries have the same people of a variable.

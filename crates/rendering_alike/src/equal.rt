@@ -3,6 +3,7 @@
 ghost use Rattle.std.specs.Prelude.{◌≡◌, ◌↔◌, IsTrue, map};
 ghost use Rattle.std.specs.Cow.{cow_value};
 ghost use Rattle.std.specs.Option.{option_map};
+ghost use Rattle.laws.specs.Text.{characters};
 ghost use Rattle.literature_numbers.specs.PageViews.{pages_view};
 ghost use Rattle.literature_values.specs.PersonViews.{lent_person_view};
 ghost use Rattle.literature_values.specs.TypedViews.{typed_view};
@@ -29,6 +30,13 @@ pub(crate) fn are_one_number(
 ) -> bool
     ensures { IsTrue result
         ↔ (option_map lent_number_view one.now ≡ option_map lent_number_view other.now) }
+{
+    *one == *other
+}
+
+/// Whether two texts are one, or there is neither.
+pub(crate) fn are_one_writing(one: &Option<String>, other: &Option<String>) -> bool
+    ensures { IsTrue result ↔ (option_map characters one.now ≡ option_map characters other.now) }
 {
     *one == *other
 }

@@ -1,6 +1,6 @@
 //! What a style names of entries.
 
-ghost use Rattle.std.specs.Prelude.{◌≡◌, suc, map, IfOk, OnOk};
+ghost use Rattle.std.specs.Prelude.{◌≡◌, suc, [], map, IfOk, OnOk, if◌then◌else◌};
 ghost use Rattle.std.specs.Option.{option_map};
 ghost use Rattle.rendering_nodes.specs.Named as named;
 ghost use Rattle.rendering_nodes.specs.Named.{named_in, named_in_branches, named_in_test, named_in_tests, variable_named};
@@ -9,9 +9,10 @@ ghost use Rattle.rendering_style.specs.Opening.{each_branch, each_node, open_nod
 ghost use Rattle.rendering_style.specs.StyleViews.{style_view};
 ghost use Rattle.rendering_style.specs.Views.{bibliography_layout_view, branch_view, branches_of, layout_view, node_view, nodes_view, test_view, text_node_view};
 ghost use Rattle.rendering.specs.Alike.{named_in_bibliography, style_named};
-ghost use Rattle.rendering.specs.Purposes.{layout_nodes};
+ghost use Rattle.rendering.specs.Purposes.{is_published, layout_nodes};
 ghost use Rattle.rendering_alike.specs.Naming.{NameTheSame, kind_named, names_view, people_named, with_named};
 
+use rendering::is_published;
 use rendering_style::{Bibliography, ChooseBranch, ChooseTest, Layout, Node, Style, TextTarget};
 use rendering_taxonomy::{DateVariable, Kind, NameVariable, StandardVariable, Variable};
 use std::alloc::{AllocError, Global};
@@ -19,11 +20,12 @@ use std::alloc::{AllocError, Global};
 /// The most levels that nodes may have, macros opened. Nothing is printed of what lies deeper.
 const LIMIT: usize = 200;
 
-/// The variables and kinds that a style names, each once.
+/// The variables and kinds that a style names, each once, and the variables of which it counts how they were written.
 #[derive(Debug, Drop)]
 pub struct StyleNames {
     pub variables: Vec<Variable>,
     pub kinds: Vec<Kind>,
+    pub written: Vec<Variable>,
 }
 
 /// What stands in the layouts of a style and in the macros that they reach, and what every style names. Each node is visited once as it is
@@ -38,7 +40,25 @@ pub fn style_names(alloc: Global, style: &Style) -> Result<StyleNames, AllocErro
     let parts = style.parts();
     add_layout(style, &parts.citation.layout, &mut found)?;
     add_bibliography(style, &parts.bibliography, &mut found)?;
+    found.written = written_variables(alloc, style, &found.variables)?;
     Ok(found)
+}
+
+/// Of which variables it counts how they were written: in a published style of all that are named.
+fn written_variables(
+    alloc: Global,
+    style: &Style,
+    variables: &[Variable],
+) -> Result<Vec<Variable>, AllocError>
+    ensures { IfOk result (λ vs. vs.items
+        ≡ if is_published (style_view style.now) then variables.now else []) }
+{
+    let mut written = Vec::new(alloc);
+    if !is_published(style) {
+        return Ok(written);
+    }
+    written.extend_from_slice(variables)?;
+    Ok(written)
 }
 
 /// What every style names.
@@ -60,7 +80,12 @@ fn always_named(alloc: Global) -> Result<StyleNames, AllocError>
         ],
     )?;
     let kinds = Vec::new(alloc);
-    Ok(StyleNames { variables, kinds })
+    let written = Vec::new(alloc);
+    Ok(StyleNames {
+        variables,
+        kinds,
+        written,
+    })
 }
 
 /// Adds what the layout of the bibliography names, where there is one.

@@ -1,16 +1,25 @@
 -- What is answered to the variable that is asked.
-use Rattle.std.proofs.Common.{◌≡◌, ℕ, false, cond, not, List, [], codes, None, refl, sym, ap, ◌∙◌}
-use Rattle.std.specs.Prelude.{Result, IfOk}
+use Rattle.std.proofs.Common.{◌≡◌, ℕ, Bool, true, false, cond, not, ◌&&◌, List, [], codes, Option, Some, None, refl, sym, ap, ◌∙◌}
+use Rattle.std.specs.Prelude.{Result, Ok, IfOk, if◌then◌else◌}
+use Rattle.std.specs.List.{list_any}
 use Rattle.std.proofs.lemmas.Result.{IfOk-weaker}
+use Rattle.literature_numbers.specs.Numerics.{Numeral}
+use Rattle.literature_numbers.specs.Pages.{Part}
+use Rattle.literature_values.specs.TypedViews.{ValueOrText, Value, Text}
 use Rattle.rendering_entries.specs.Library.{characters_of}
+use Rattle.rendering_taxonomy.specs.Kinds.{is_locator}
 use Rattle.rendering_taxonomy.specs.Variables.{is_among}
-use Rattle.rendering_context.specs.Answering.{no_answer, answer_of, answer_to, asked_for, has_answer, is_missing, of_address, of_locator, of_payload, or_no_answer, standard_answer}
-use Rattle.rendering_context.specs.Cites.{SpecificLocator}
+use Rattle.rendering_taxonomy.specs.declared.locator.Locator.TheVariants as locators
+use Rattle.rendering_context.specs.Answering.{no_answer, answer_of, answer_to, as_text, asked_for, has_answer, is_missing, is_numeric_answer, is_plural_answer, is_range_sign, of_address, of_entry, of_locator, of_number, of_page_payload, of_payload, or_no_answer, ranges, spelled_pages, standard_answer, text_answer_to, text_written, written_in}
+use Rattle.rendering_context.specs.Cites.{Payload, SpecificLocator, written, transparent}
 use Rattle.rendering_context.specs.Contexts.{Context}
+use Rattle.rendering_context.specs.Stretches.{is_numeric_text}
 use Rattle.rendering_taxonomy.specs.declared.date.LongShortForm.{LongShortForm}
 use Rattle.rendering_taxonomy.specs.declared.date.LongShortForm.TheVariants as lengths
 use Rattle.rendering_taxonomy.specs.declared.variable.DateVariable.{DateVariable}
 use Rattle.rendering_taxonomy.specs.declared.variable.NameVariable.{NameVariable}
+use Rattle.rendering_taxonomy.specs.declared.variable.NumberVariable.{NumberVariable}
+use Rattle.rendering_taxonomy.specs.declared.variable.NumberVariable.TheVariants as number
 use Rattle.rendering_taxonomy.specs.declared.variable.StandardVariable.{StandardVariable}
 use Rattle.rendering_taxonomy.specs.declared.variable.StandardVariable.TheVariants as standard
 use Rattle.rendering_taxonomy.specs.declared.variable.Variable.{Variable}
@@ -44,6 +53,51 @@ pub url_answer : (c : Context) (form : LongShortForm) (v : StandardVariable) (st
     → or_no_answer (λ cs. of_address start (characters_of cs)) (c.answers.standard form v) ≡ standard_answer c form v
 url_answer c form v start e f = rw (e, f) refl
 
--- in a style that names no format for ranges of pages a locator answers its text
-pub locator_without_format : (l : SpecificLocator) → of_locator None l ≡ of_payload l.payload
-locator_without_format l = refl
+-- in a style that is no published one and names no format for ranges of pages a locator answers its text
+pub locator_without_format : (l : SpecificLocator) → of_locator None false l ≡ of_payload false l.payload
+locator_without_format l = either (is_locator locators.Page l.label) l.payload
+  where
+    either : (b : Bool) (p : Payload) → (if b then of_page_payload None false p else of_payload false p) ≡ of_payload false p
+    either true (written cs) = refl
+    either true transparent = refl
+    either false p = refl
+
+-- in a style that is no published one a locator answers its text as it is
+pub locator_as_it_is : (cs : List ℕ) → of_payload false (written cs) ≡ of_number (Text cs)
+locator_as_it_is cs = refl
+
+-- the pages that it spells, whatever noughts stand before their numbers
+pub pages_spelled : (cs : List ℕ) (ps : List Part) → spelled_pages false cs (Ok ps) ≡ ranges (Value ps)
+pages_spelled cs ps = refl
+
+-- numbers and pages answer what the entry answers
+module _ (c : Context) (not_published : c.is_published ≡ false) where
+  nothing_written : (v : Variable) → written_in c v ≡ None
+  nothing_written v = ap (λ (b : Bool). if b then c.answers.written v else None) not_published
+
+  pub number_as_it_is : (v : NumberVariable) → of_entry (c.answers.number v) (written_in c (variables.Number v)) ≡ or_no_answer of_number (c.answers.number v)
+  number_as_it_is v = ap (of_entry (c.answers.number v)) (nothing_written (variables.Number v)) ∙ without (c.answers.number v)
+    where
+      without : (n : Option (ValueOrText Numeral)) → of_entry n None ≡ or_no_answer of_number n
+      without None = refl
+      without (Some n) = refl
+
+  no_text : (v : Variable) → text_written c v ≡ None
+  no_text (variables.Number number.CitationNumber) = refl
+  no_text (variables.Number number.FirstReferenceNoteNumber) = refl
+  no_text (variables.Number number.Locator) = refl
+  no_text (variables.Number v) = nothing_written (variables.Number v)
+  no_text variables.Page = nothing_written variables.Page
+  no_text v = refl
+
+  -- text nodes print what number nodes print
+  pub texts_as_numbers : (suppressed : List Variable) (form : LongShortForm) (v : Variable) → text_answer_to c suppressed form v ≡ answer_to c suppressed form v
+  texts_as_numbers suppressed form v = ap (λ t. as_text t (answer_to c suppressed form v)) (no_text (asked_for c v))
+
+  -- a text has no more than one
+  pub texts_are_singular : (cs : List ℕ) → is_plural_answer c.is_published (ranges (Text cs)) ≡ false
+  texts_are_singular cs = ap (λ (b : Bool). b && list_any is_range_sign cs) not_published
+
+  -- and is no number
+  pub texts_are_no_numbers : (cs : List ℕ) → is_numeric_answer c.is_published (ranges (Text cs)) ≡ false
+  texts_are_no_numbers cs = ap (λ (b : Bool). b && is_numeric_text cs) not_published

@@ -1,9 +1,8 @@
 -- What a cite and its entry answer.
-use Rattle.std.specs.Prelude.{ℕ, ◌+◌, ◌^◌, nat_lt, Bool, true, false, not, ◌==◌, ◌&&◌, ◌||◌, is_some, List, [], ◌∷◌, ◌++◌, map, filter, if◌then◌else◌, Option, Some, None, Result, Ok, Err, pos, codes}
+use Rattle.std.specs.Prelude.{ℕ, ◌+◌, ◌^◌, nat_lt, Bool, true, false, not, ◌&&◌, List, [], ◌∷◌, ◌++◌, map, filter, if◌then◌else◌, Option, Some, None, Result, Ok, Err, pos, codes}
 use Rattle.std.specs.Fmt.{decimal}
 use Rattle.std.specs.List.{list_any}
 use Rattle.std.specs.Option.{option_map_or, unwrap_or}
-use Rattle.laws.specs.Characters.{ampersand, comma, hyphen, en_dash}
 use Rattle.literature_numbers.specs.Numerics.{Numeral, plain, numeral_of}
 use Rattle.literature_numbers.specs.NumericText.{is_plural}
 use Rattle.literature_numbers.specs.Pages.{Part, pages_of, pages_text, has_more}
@@ -16,8 +15,11 @@ use Rattle.rendering_tree.specs.Metas.{Answered}
 use Rattle.laws.specs.Text.{is_filled}
 use Rattle.literature_values.specs.declared.date.Date.{Date}
 use Rattle.rendering_entries.specs.Library.{characters_of, one_chunk}
+use Rattle.rendering_ranges.specs.Dashes.{dashed, has_padding}
 use Rattle.rendering_context.specs.Cites.{Payload, written, transparent, SpecificLocator}
 use Rattle.rendering_context.specs.Contexts.{Context}
+use Rattle.rendering_context.specs.Stretches.{is_numeric_text}
+pub use Rattle.rendering_context.specs.Stretches.{is_range_sign}
 use Rattle.literature_values.specs.declared.text.ChunkKind.{ChunkKind}
 use Rattle.literature_values.specs.declared.text.ChunkKind.TheVariants as chunk_kinds
 use Rattle.texts.specs.declared.reader.Unreadable.{Unreadable}
@@ -80,36 +82,62 @@ abbrev pub or_no_answer : {X : Type 0} → (X → Answer) → Option X → Answe
 or_no_answer given None = no_answer
 or_no_answer given (Some x) = given x
 
--- a locator answers its text
-abbrev pub of_payload : Payload → Answer
-of_payload (written cs) = of_number (Text cs)
-of_payload transparent = own
+-- a text, in a published style with the hyphens of its ranges as en dashes
+abbrev pub dashed_if : Bool → List ℕ → List ℕ
+dashed_if is_published cs = if is_published then dashed cs else cs
 
--- a text that spells pages answers these, another one itself
-abbrev pub spelled_pages : List ℕ → Result (List Part) Unreadable → Answer
-spelled_pages cs (Ok ps) = ranges (Value ps)
-spelled_pages cs (Err e) = of_number (Text cs)
+-- a locator answers its text
+abbrev pub of_payload : Bool → Payload → Answer
+of_payload is_published (written cs) = of_number (Text (dashed_if is_published cs))
+of_payload is_published transparent = own
+
+-- a text that counts pages: in a published style it is printed as pages are
+abbrev pub page_text : Bool → List ℕ → Answer
+page_text is_published cs = if is_published then of_pages (Text cs) else of_number (Text cs)
+
+-- A text that spells pages answers these, another one itself. In a published style numbers with noughts before them stay as they are.
+abbrev pub spelled_pages : Bool → List ℕ → Result (List Part) Unreadable → Answer
+spelled_pages is_published cs (Ok ps) =
+    if is_published && has_padding cs then of_pages (Text cs) else ranges (Value ps)
+spelled_pages is_published cs (Err e) = page_text is_published cs
+
+-- a text that counts pages, in a style that shortens ranges of pages by the pages that it spells
+abbrev pub page_text_in : Option PageRangeFormat → Bool → List ℕ → Answer
+page_text_in None is_published cs = page_text is_published cs
+page_text_in (Some format) is_published cs = spelled_pages is_published cs (pages_of cs)
 
 -- a locator that counts pages, by its text
-abbrev pub of_page_payload : Payload → Answer
-of_page_payload (written cs) = spelled_pages cs (pages_of cs)
-of_page_payload transparent = own
+abbrev pub of_page_payload : Option PageRangeFormat → Bool → Payload → Answer
+of_page_payload format is_published (written cs) = page_text_in format is_published cs
+of_page_payload format is_published transparent = own
 
--- a locator answers its text, but in a style that shortens ranges of pages the pages that it spells, where it counts pages
-abbrev pub of_locator : Option PageRangeFormat → SpecificLocator → Answer
-of_locator format l =
-    if is_some format && is_locator locators.Page l.label then of_page_payload l.payload else of_payload l.payload
+-- a locator answers its text, and one that counts pages answers pages, as the style prints them
+abbrev pub of_locator : Option PageRangeFormat → Bool → SpecificLocator → Answer
+of_locator format is_published l =
+    if is_locator locators.Page l.label
+    then of_page_payload format is_published l.payload
+    else of_payload is_published l.payload
 
 -- a number that counts from one; one that is too great for a number is a text in digits
 abbrev pub of_count : ℕ → Answer
 of_count n = count (if nat_lt n (2 ^ 31) then Value (plain (pos n)) else Text (decimal n))
 
+-- the text of a number or of pages of the entry as it was written, where the style is a published one
+abbrev pub written_in : Context → Variable → Option (List ℕ)
+written_in c v = if c.is_published then c.answers.written v else None
+
+-- a number of the entry, or the text where there is no number
+abbrev pub of_entry : Option (ValueOrText Numeral) → Option (List ℕ) → Answer
+of_entry (Some n) text = of_number n
+of_entry None text = or_no_answer (λ cs. of_number (Text cs)) text
+
 -- what the cite answers, and else the entry, to a number variable
 abbrev pub number_answer : Context → NumberVariable → Answer
 number_answer c number.CitationNumber = of_count (c.properties.citation_number + 1)
 number_answer c number.FirstReferenceNoteNumber = or_no_answer of_count c.properties.first_note_number
-number_answer c number.Locator = or_no_answer (of_locator c.page_ranges) c.properties.locator
-number_answer c v = or_no_answer of_number (c.answers.number v)
+number_answer c number.Locator =
+    or_no_answer (of_locator c.page_ranges c.is_published) c.properties.locator
+number_answer c v = of_entry (c.answers.number v) (written_in c (variables.Number v))
 
 -- what the cite answers, and else the entry, to a variable that is a text; two of them are addresses
 abbrev pub standard_answer : Context → LongShortForm → StandardVariable → Answer
@@ -136,9 +164,41 @@ exchanged_for usage v = v
 abbrev pub asked_for : Context → Variable → Variable
 asked_for c v = if c.is_bibliography then exchanged_for c.properties.identifier_usage v else v
 
--- what a text or number node prints; a variable that is not printed again answers nothing
+-- what a number node prints; a variable that is not printed again answers nothing
 abbrev pub answer_to : Context → List Variable → LongShortForm → Variable → Answer
 answer_to c suppressed form v = if is_among suppressed v then no_answer else answer_of c form (asked_for c v)
+
+-- the same for a text node; a cite's numbers are not the entry's
+abbrev pub text_written : Context → Variable → Option (List ℕ)
+text_written c (variables.Number number.CitationNumber) = None
+text_written c (variables.Number number.FirstReferenceNoteNumber) = None
+text_written c (variables.Number number.Locator) = None
+text_written c (variables.Number v) = written_in c (variables.Number v)
+text_written c variables.Page = written_in c variables.Page
+text_written c v = None
+
+-- whether an answer is a number, or a text instead of it
+abbrev pub is_count : Answer → Bool
+is_count (count n) = true
+is_count h = false
+
+-- whether it is pages, or a text instead of them
+abbrev pub is_ranges : Answer → Bool
+is_ranges (ranges ps) = true
+is_ranges h = false
+
+-- a number by the text that was written, where there is one, and pages by it where their numbers have noughts before them
+abbrev pub as_text : Option (List ℕ) → Answer → Answer
+as_text None h = h
+as_text (Some cs) h =
+    if is_filled cs && is_count h then count (Text cs)
+    else if has_padding cs && is_ranges h then ranges (Text cs)
+    else h
+
+-- what a text node prints: in a published style numbers as they were written
+abbrev pub text_answer_to : Context → List Variable → LongShortForm → Variable → Answer
+text_answer_to c suppressed form v =
+    as_text (text_written c (asked_for c v)) (answer_to c suppressed form v)
 
 -- whether there is no answer
 abbrev pub is_missing : Answer → Bool
@@ -166,25 +226,23 @@ all_people c suppressed vs = filter with_people (map (λ v. (people_answer c sup
 abbrev pub has_people : Context → List Variable → List NameVariable → Bool
 has_people c suppressed vs = list_any (λ v. with_people (people_answer c suppressed v, v)) vs
 
--- whether there is more than one, by the value or by the signs in a locator's text
-abbrev pub is_range_sign : ℕ → Bool
-is_range_sign c = c == comma || c == ampersand || c == hyphen || c == en_dash
-
--- whether a locator's text has such a sign
+-- whether a locator's text has a sign between more than one
 abbrev pub is_plural_payload : Payload → Bool
 is_plural_payload (written cs) = list_any is_range_sign cs
 is_plural_payload transparent = false
 
--- whether an answer is more than one
-abbrev pub is_plural_answer : Answer → Bool
-is_plural_answer (count (Value n)) = is_plural n.value
-is_plural_answer (ranges (Value ps)) = has_more false ps
-is_plural_answer h = false
+-- whether an answer is more than one; in a published style also a text, by its signs
+abbrev pub is_plural_answer : Bool → Answer → Bool
+is_plural_answer is_published (count (Value n)) = is_plural n.value
+is_plural_answer is_published (count (Text cs)) = is_published && list_any is_range_sign cs
+is_plural_answer is_published (ranges (Value ps)) = has_more false ps
+is_plural_answer is_published (ranges (Text cs)) = is_published && list_any is_range_sign cs
+is_plural_answer is_published h = false
 
 -- whether the answer to a variable is more than one
 abbrev pub is_plural_variable : Context → Variable → Bool
 is_plural_variable c (variables.Number number.Locator) = option_map_or (λ l. is_plural_payload l.payload) c.properties.locator false
-is_plural_variable c v = is_plural_answer (answer_of c lengths.Long v)
+is_plural_variable c v = is_plural_answer c.is_published (answer_of c lengths.Long v)
 
 -- whether a text spells a number
 abbrev pub spells_number : Result Numeral Unreadable → Bool
@@ -196,16 +254,18 @@ abbrev pub is_numeric_payload : Payload → Bool
 is_numeric_payload (written cs) = spells_number (numeral_of cs)
 is_numeric_payload transparent = false
 
--- whether an answer is a number
-abbrev pub is_numeric_answer : Answer → Bool
-is_numeric_answer (count (Value n)) = true
-is_numeric_answer (ranges (Value ps)) = true
-is_numeric_answer h = false
+-- whether an answer is a number; in a published style also a text that counts as numbers
+abbrev pub is_numeric_answer : Bool → Answer → Bool
+is_numeric_answer is_published (count (Value n)) = true
+is_numeric_answer is_published (count (Text cs)) = is_published && is_numeric_text cs
+is_numeric_answer is_published (ranges (Value ps)) = true
+is_numeric_answer is_published (ranges (Text cs)) = is_published && is_numeric_text cs
+is_numeric_answer is_published h = false
 
 -- whether what is answered is a number
 abbrev pub is_numeric_variable : Context → Variable → Bool
 is_numeric_variable c (variables.Number number.Locator) = option_map_or (λ l. is_numeric_payload l.payload) c.properties.locator false
-is_numeric_variable c v = is_numeric_answer (answer_of c lengths.Long v)
+is_numeric_variable c v = is_numeric_answer c.is_published (answer_of c lengths.Long v)
 
 -- whether anything is answered
 abbrev pub has_answer : Context → Variable → Bool

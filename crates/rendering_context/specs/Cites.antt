@@ -25,7 +25,8 @@ pub data DisambiguateState : Type 0 where
 
 -- The number of the note that it stands in and of the one where its entry stood first, whether it stands near it, whether its entry was
 -- cited before, its index in the request, its locator, the index of its entry among all that are cited, how it stands to the cite
--- before it, its state of disambiguation, and which identifiers the entry's cites printed.
+-- before it, its state of disambiguation, which identifiers the entry's cites printed, and how much of its first names is printed
+-- before cites are compared.
 pub record CiteProperties : Type 0 where
   pub note_number : Option ℕ
   pub first_note_number : Option ℕ
@@ -37,6 +38,7 @@ pub record CiteProperties : Type 0 where
   pub ibid : IbidState
   pub disambiguation : DisambiguateState
   pub identifier_usage : IdentifierUsage
+  pub first_names : Properties
 
 -- the year suffix, where there is one
 abbrev pub year_suffix_of : DisambiguateState → List ℕ

@@ -8,7 +8,8 @@ use Rattle.rendering_taxonomy.specs.declared.page.PageRangeFormat.{PageRangeForm
 
 -- What a call prints from: what the entry answers, what is known of the cite, the locales that are asked, the close quotes inside which
 -- punctuation goes, the year suffix of the cite, whether an item of a bibliography is printed, whether a layout of the style prints the
--- year suffix by itself, how the style shortens ranges of pages, and whether the language of the call is English.
+-- year suffix by itself, how the style shortens ranges of pages, whether the language of the call is English, and whether numbers,
+-- ranges and locators are printed as in published styles.
 pub record Context : Type 0 where
   pub answers : Answers
   pub properties : CiteProperties
@@ -19,6 +20,7 @@ pub record Context : Type 0 where
   pub has_suffix_node : Bool
   pub page_ranges : Option PageRangeFormat
   pub in_english : Bool
+  pub is_published : Bool
 
 -- A style with the language that is asked for, and the files with locales.
 pub record StyleContext : Type 0 where

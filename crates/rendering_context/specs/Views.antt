@@ -1,5 +1,6 @@
 -- The code's values without where they lie in memory.
-use Rattle.std.specs.Prelude.{◌≡◌, map, Option, Some, None}
+use Rattle.std.specs.Prelude.{◌≡◌, [], map, Option, Some, None}
+use Rattle.std.specs.Borrow.{Bor}
 use Rattle.std.specs.Option.{option_map}
 use Rattle.std.specs.Str.{chars}
 use Rattle.laws.specs.Text.{characters, spelled}
@@ -8,6 +9,7 @@ use Rattle.literature_values.specs.TypedViews.{typed_view, Text}
 use Rattle.rendering_entries.specs.Answers.{Answers}
 use Rattle.rendering_entries.specs.Library.{one_chunk}
 use Rattle.rendering_entries.specs.Views.{lent_number_view, lent_text_view}
+use Rattle.rendering_people.specs.Properties.{Properties}
 use Rattle.rendering_context.specs.Answering as answering
 use Rattle.rendering_context.specs.Cites as cites
 use Rattle.rendering_context.specs.Contexts as contexts
@@ -44,6 +46,11 @@ state_view (states.NameDisambiguation ps) = cites.by_names ps
 state_view states.Choose = cites.by_choose
 state_view (states.YearSuffix n) = cites.by_suffix n
 
+-- how much of names is printed, where that is known
+abbrev pub lent_names : Option (Bor Properties) → Properties
+lent_names None = []
+lent_names (Some ps) = ps.now
+
 -- what is known of a cite
 abbrev pub cite_properties_view : CiteProperties → cites.CiteProperties
 cite_properties_view c = record {
@@ -57,6 +64,7 @@ cite_properties_view c = record {
   ibid = c.ibid;
   disambiguation = state_view c.disambiguation;
   identifier_usage = c.identifier_usage;
+  first_names = lent_names c.first_names;
 }
 
 -- what a call prints from, with what the entry answers
@@ -71,6 +79,7 @@ context_view a c = record {
   has_suffix_node = c.has_suffix_node;
   page_ranges = c.page_ranges;
   in_english = c.in_english;
+  is_published = c.is_published;
 }
 
 -- what is printed

@@ -1,9 +1,10 @@
 //! What a text or number node prints.
 
-ghost use Rattle.std.specs.Prelude.{◌≡◌, ◌++◌, map, IfOk};
+ghost use Rattle.std.specs.Prelude.{◌≡◌, ◌++◌, map, IfOk, Ok};
 ghost use Rattle.std.specs.Fmt.{decimal};
 ghost use Rattle.std.specs.List.{list_any};
 ghost use Rattle.std.specs.Str.{chars};
+ghost use Rattle.std.specs.Option.{option_map};
 ghost use Rattle.laws.specs.Text.{characters, is_filled};
 ghost use Rattle.literature_values.specs.TextViews.{chunk_view, chunks_view};
 ghost use Rattle.literature_values.specs.TypedViews.{Value, Text, typed_view};
@@ -15,20 +16,20 @@ ghost use Rattle.rendering_entries.specs.Views.{lent_number_view, lent_text_view
 ghost use Rattle.rendering_context.specs.Answering as answering;
 ghost use Rattle.rendering_context.specs.Views.{payload_view, locator_view, answer_view, answer_if};
 
-use crate::locator::{LocatorPayload, SpecificLocator};
+use crate::locator::{LocatorPayload, SpecificLocator, has_range_sign};
 use crate::pages::have_text;
+use crate::stretch::is_numeric_text;
 use crate::variables::is_locator;
 use literature_values::{
     ChunkKind, ChunkedString, MaybeTyped, Numeric, PageRanges, PageRangesError, StringChunk,
 };
 use rendering_entries::EntryLike;
-use rendering_taxonomy::{
-    Locator, LongShortForm, NumberVariable, PageRangeFormat, StandardVariable,
-};
+use rendering_ranges::{dashed, has_padding};
+use rendering_taxonomy::{Locator, LongShortForm, PageRangeFormat, StandardVariable};
 use std::alloc::{AllocError, Global};
 use std::borrow::Cow;
 use std::fmt::Write;
-use texts::{empty_text, has_text, push_text};
+use texts::{empty_text, has_text, owned, push_text};
 
 /// What a text or number node prints.
 #[derive(Drop)]
@@ -50,25 +51,36 @@ pub enum Answer<'a> {
 }
 
 impl Answer<'_> {
-    /// Whether it is more than one.
-    pub(crate) fn is_plural(&self) -> bool
-        ensures { result ≡ answering.is_plural_answer (answer_view self.now) }
+    /// Whether it is more than one; in a published style also a text, by its signs.
+    pub(crate) fn is_plural(&self, is_published: bool) -> bool
+        ensures { result ≡ answering.is_plural_answer is_published (answer_view self.now) }
     {
         match self {
             Answer::Number(MaybeTyped::Typed(number)) => number.is_plural(),
+            Answer::Number(MaybeTyped::String(text)) => {
+                is_published && has_range_sign(text.as_str())
+            }
+            Answer::Locator(text) => is_published && has_range_sign(text),
             Answer::Pages(MaybeTyped::Typed(pages)) => pages.is_plural(),
+            Answer::Pages(MaybeTyped::String(text)) => {
+                is_published && has_range_sign(text.as_str())
+            }
             _ => false,
         }
     }
 
-    /// Whether it is a number or pages.
-    pub(crate) fn is_numeric(&self) -> bool
-        ensures { result ≡ answering.is_numeric_answer (answer_view self.now) }
+    /// Whether it is a number or pages; in a published style also a text that counts as numbers.
+    pub(crate) fn is_numeric(&self, is_published: bool) -> bool
+        ensures { result ≡ answering.is_numeric_answer is_published (answer_view self.now) }
     {
-        matches!(
-            self,
-            Answer::Number(MaybeTyped::Typed(_)) | Answer::Pages(MaybeTyped::Typed(_))
-        )
+        match self {
+            Answer::Number(MaybeTyped::Typed(_)) | Answer::Pages(MaybeTyped::Typed(_)) => true,
+            Answer::Number(MaybeTyped::String(text)) | Answer::Pages(MaybeTyped::String(text)) => {
+                is_published && is_numeric_text(text.as_str())
+            }
+            Answer::Locator(text) => is_published && is_numeric_text(text),
+            _ => false,
+        }
     }
 }
 
@@ -184,23 +196,48 @@ fn joined(alloc: Global, start: &str, end: &str) -> Result<String, AllocError>
     Ok(text)
 }
 
-/// The number of a variable, or a text instead of it, where there is one.
-pub(crate) fn number_of<'a, E: EntryLike>(
-    alloc: Global,
-    entry: &'a E,
-    variable: NumberVariable,
-) -> Result<Option<Answer<'a>>, AllocError>
-    ensures { IfOk result (λ a. answer_if a
-        ≡ answering.or_no_answer answering.of_number ((E.answers entry.now).number variable)) }
+/// The text of a number as it was written, where there is one that is not empty.
+pub(crate) fn written_number<'a>(text: Option<String>) -> Option<Answer<'a>>
+    ensures { answer_if result ≡ answering.or_no_answer (λ cs. answering.of_number (Text cs))
+        (option_map characters text) }
 {
-    match entry.resolve_number_variable(alloc, variable)? {
-        Some(number) => Ok(number_or_text(number)),
-        None => Ok(None),
+    text_for_number(text?)
+}
+
+/// A number by the text that was written, where there is one that is not empty, and pages by it where their numbers have noughts before
+/// them.
+pub(crate) fn as_text<'a>(text: Option<String>, answer: Option<Answer<'a>>) -> Option<Answer<'a>>
+    ensures { answer_if result
+        ≡ answering.as_text (option_map characters text) (answer_if answer.entry) }
+{
+    let Some(text) = text else {
+        return answer;
+    };
+    if has_text(text.as_str()) && is_count(&answer) {
+        return Some(Answer::Number(MaybeTyped::String(text)));
     }
+    if has_padding(text.as_str()) && is_ranges(&answer) {
+        return Some(Answer::Pages(MaybeTyped::String(text)));
+    }
+    answer
+}
+
+/// Whether it is a number, or a text instead of it.
+fn is_count(answer: &Option<Answer<'_>>) -> bool
+    ensures { result ≡ answering.is_count (answer_if answer.now) }
+{
+    matches!(answer, Some(Answer::Number(_) | Answer::Locator(_)))
+}
+
+/// Whether it is pages, or a text instead of them.
+fn is_ranges(answer: &Option<Answer<'_>>) -> bool
+    ensures { result ≡ answering.is_ranges (answer_if answer.now) }
+{
+    matches!(answer, Some(Answer::Pages(_)))
 }
 
 /// The number, or a text instead of it that is not empty.
-fn number_or_text(number: MaybeTyped<Cow<'_, Numeric>>) -> Option<Answer<'_>>
+pub(crate) fn number_or_text(number: MaybeTyped<Cow<'_, Numeric>>) -> Option<Answer<'_>>
     ensures { answer_if result ≡ answering.of_number (lent_number_view number.entry) }
 {
     match number {
@@ -246,60 +283,145 @@ fn digits(alloc: Global, number: u128) -> Result<String, AllocError>
     Ok(text)
 }
 
-/// The locator's text, or in a style that shortens ranges of pages the pages that it spells, where it counts pages.
+/// The locator's text, or where it counts pages what it says of these, as the style prints them. In a published style the hyphens of
+/// ranges are en dashes.
 pub(crate) fn locator<'a>(
     alloc: Global,
     format: Option<PageRangeFormat>,
+    is_published: bool,
     locator: &SpecificLocator<'a, ()>,
 ) -> Result<Option<Answer<'a>>, AllocError>
     ensures { IfOk result (λ a. answer_if a
-        ≡ answering.of_locator format (locator_view locator.now)) }
+        ≡ answering.of_locator format is_published (locator_view locator.now)) }
 {
-    if format.is_some() && is_locator(Locator::Page, locator.label) {
-        page_payload(alloc, &locator.payload)
+    if is_locator(Locator::Page, locator.label) {
+        page_payload(alloc, format, is_published, &locator.payload)
     } else {
-        Ok(payload(&locator.payload))
+        payload(alloc, is_published, &locator.payload)
     }
 }
 
-/// The pages that the locator spells or its text, or that the caller prints it.
+/// What the locator's text says of pages, or that the caller prints it.
 fn page_payload<'a>(
     alloc: Global,
+    format: Option<PageRangeFormat>,
+    is_published: bool,
     payload: &LocatorPayload<'a, ()>,
 ) -> Result<Option<Answer<'a>>, AllocError>
     ensures { IfOk result (λ a. answer_if a
-        ≡ answering.of_page_payload (payload_view payload.now)) }
+        ≡ answering.of_page_payload format is_published (payload_view payload.now)) }
 {
     match payload {
-        LocatorPayload::Str(text) => spelled_pages(alloc, text),
+        LocatorPayload::Str(text) => page_text_in(alloc, format, is_published, text),
         LocatorPayload::Transparent(_) => Ok(Some(Answer::Transparent)),
     }
 }
 
-/// The pages that the locator's text spells, or else the text.
-fn spelled_pages<'a>(alloc: Global, text: &'a str) -> Result<Option<Answer<'a>>, AllocError>
+/// In a style that shortens ranges of pages the pages that the locator's text spells, or else the text.
+fn page_text_in<'a>(
+    alloc: Global,
+    format: Option<PageRangeFormat>,
+    is_published: bool,
+    text: &'a str,
+) -> Result<Option<Answer<'a>>, AllocError>
     ensures { IfOk result (λ a. answer_if a
-        ≡ answering.spelled_pages (chars text.now) (pages_of (chars text.now))) }
+        ≡ answering.page_text_in format is_published (chars text.now)) }
+{
+    match format {
+        Some(_) => spelled_pages(alloc, is_published, text),
+        None => page_text(alloc, is_published, text),
+    }
+}
+
+/// The locator's text, where it is not empty: in a published style as a text in place of pages.
+fn page_text<'a>(
+    alloc: Global,
+    is_published: bool,
+    text: &'a str,
+) -> Result<Option<Answer<'a>>, AllocError>
+    ensures { IfOk result (λ a. answer_if a
+        ≡ answering.page_text is_published (chars text.now)) }
+{
+    if is_published {
+        text_for_pages(alloc, text)
+    } else {
+        Ok(borrowed_text(text))
+    }
+}
+
+/// A copy of a text in place of pages, where it is not empty.
+fn text_for_pages<'a>(alloc: Global, text: &str) -> Result<Option<Answer<'a>>, AllocError>
+    ensures { IfOk result (λ a. answer_if a ≡ answering.of_pages (Text (chars text.now))) }
+{
+    let text = owned(alloc, text)?;
+    Ok(pages_with_text(MaybeTyped::String(text)))
+}
+
+/// The pages that the locator's text spells, or else the text.
+fn spelled_pages<'a>(
+    alloc: Global,
+    is_published: bool,
+    text: &'a str,
+) -> Result<Option<Answer<'a>>, AllocError>
+    ensures { IfOk result (λ a. answer_if a
+        ≡ answering.spelled_pages is_published (chars text.now) (pages_of (chars text.now))) }
 {
     match PageRanges::read(alloc, text) {
-        Ok(pages) => Ok(Some(Answer::Pages(MaybeTyped::Typed(pages)))),
-        Err(PageRangesError::Malformed) => Ok(locator_text(text)),
+        Ok(pages) => read_pages(alloc, is_published, text, pages),
+        Err(PageRangesError::Malformed) => page_text(alloc, is_published, text),
         Err(PageRangesError::Memory) => Err(AllocError),
     }
 }
 
+/// The pages that were read of the locator's text, or in a published style the text, where numbers have noughts before them.
+fn read_pages<'a>(
+    alloc: Global,
+    is_published: bool,
+    text: &str,
+    pages: PageRanges,
+) -> Result<Option<Answer<'a>>, AllocError>
+    ensures { IfOk result (λ a. answer_if a
+        ≡ answering.spelled_pages is_published (chars text.now) (Ok (pages_view pages))) }
+{
+    if is_published && has_padding(text) {
+        return text_for_pages(alloc, text);
+    }
+    Ok(Some(Answer::Pages(MaybeTyped::Typed(pages))))
+}
+
 /// The locator's text, where it is not empty, or that the caller prints it.
-fn payload<'a>(payload: &LocatorPayload<'a, ()>) -> Option<Answer<'a>>
-    ensures { answer_if result ≡ answering.of_payload (payload_view payload.now) }
+fn payload<'a>(
+    alloc: Global,
+    is_published: bool,
+    payload: &LocatorPayload<'a, ()>,
+) -> Result<Option<Answer<'a>>, AllocError>
+    ensures { IfOk result (λ a. answer_if a
+        ≡ answering.of_payload is_published (payload_view payload.now)) }
 {
     match payload {
-        LocatorPayload::Str(text) => locator_text(text),
-        LocatorPayload::Transparent(_) => Some(Answer::Transparent),
+        LocatorPayload::Str(text) => locator_text(alloc, is_published, text),
+        LocatorPayload::Transparent(_) => Ok(Some(Answer::Transparent)),
     }
 }
 
-/// The locator's text, where it is not empty.
-fn locator_text(text: &str) -> Option<Answer<'_>>
+/// The locator's text, where it is not empty; in a published style with the hyphens of its ranges as en dashes.
+fn locator_text<'a>(
+    alloc: Global,
+    is_published: bool,
+    text: &'a str,
+) -> Result<Option<Answer<'a>>, AllocError>
+    ensures { IfOk result (λ a. answer_if a
+        ≡ answering.of_number (Text (answering.dashed_if is_published (chars text.now)))) }
+{
+    if is_published {
+        Ok(text_for_number(dashed(alloc, text)?))
+    } else {
+        Ok(borrowed_text(text))
+    }
+}
+
+/// The locator's text as it is, where it is not empty.
+fn borrowed_text(text: &str) -> Option<Answer<'_>>
     ensures { answer_if result ≡ answering.of_number (Text (chars text.now)) }
 {
     if has_text(text) {

@@ -49,6 +49,8 @@ pub struct CiteProperties<'a> {
     pub disambiguation: DisambiguateState,
     /// Which identifiers the entry's cites printed.
     pub identifier_usage: IdentifierUsage,
+    /// How much of its first names is printed before cites are compared, where that is more than the style says.
+    pub first_names: Option<&'a NameDisambiguationProperties>,
 }
 
 impl<'a> CiteProperties<'a> {
@@ -71,6 +73,7 @@ impl<'a> CiteProperties<'a> {
             ibid: IbidState::Different,
             disambiguation: self.disambiguation.clone()?,
             identifier_usage: self.identifier_usage,
+            first_names: self.first_names,
         })
     }
 
@@ -102,17 +105,18 @@ impl<'a> CiteProperties<'a> {
         }
     }
 
-    /// The locator as a node prints it in a style that shortens ranges of pages so, where there is one.
+    /// The locator as a node prints it in a style that shortens ranges of pages so, be it a published one or not, where there is one.
     pub(crate) fn locator_answer(
         &self,
         alloc: Global,
         format: Option<PageRangeFormat>,
+        is_published: bool,
     ) -> Result<Option<Answer<'a>>, AllocError>
         ensures { IfOk result (λ a. answer_if a ≡ answering.or_no_answer
-            (answering.of_locator format) (cite_properties_view self.now).locator) }
+            (answering.of_locator format is_published) (cite_properties_view self.now).locator) }
     {
         match &self.locator {
-            Some(cited) => locator(alloc, format, cited),
+            Some(cited) => locator(alloc, format, is_published, cited),
             None => Ok(None),
         }
     }

@@ -3,12 +3,15 @@
 ghost use Rattle.std.specs.Prelude.{◌≡◌, ◌++◌, ◌∷◌, [], filter, not, IfOk, OnOk};
 ghost use Rattle.std.specs.Cow.{cow_value};
 ghost use Rattle.std.specs.Option.{option_map};
+ghost use Rattle.laws.specs.Text.{characters};
 ghost use Rattle.rendering_context.specs.Answering as answering;
 ghost use Rattle.rendering_entries.specs.Answers.{Answers};
 ghost use Rattle.rendering_context.specs.Views.{context_view, answer_if};
 ghost use Rattle.rendering_people.specs.Views.{all_lent_answered_view, lent_people_view};
 
-use crate::answer::{Answer, address_of, number_of, pages_of, text_of, year_suffix};
+use crate::answer::{
+    Answer, address_of, as_text, number_or_text, pages_of, text_of, written_number, year_suffix,
+};
 use crate::cite::CiteProperties;
 use crate::variables::{exchanged_for, is_among};
 use literature_values::{Date, Person};
@@ -41,11 +44,12 @@ pub struct Context<'s, 'a> {
     pub page_ranges: Option<PageRangeFormat>,
     /// Whether the language of the call is English.
     pub in_english: bool,
+    /// Whether numbers, ranges and locators are printed as in published styles.
+    pub is_published: bool,
 }
 
 impl<'s, 'a> Context<'s, 'a> {
-    /// What a text or number node of the variable prints, where it prints anything. A variable that is not printed again answers
-    /// nothing.
+    /// What a number node of the variable prints, where it prints anything. A variable that is not printed again answers nothing.
     ///
     /// # Errors
     /// Out of memory.
@@ -63,6 +67,73 @@ impl<'s, 'a> Context<'s, 'a> {
             return Ok(None);
         }
         self.answer_of(entry, form, self.asked_for(variable))
+    }
+
+    /// What a text node of the variable prints: in a published style numbers as they were written.
+    ///
+    /// # Errors
+    /// Out of memory.
+    pub fn text_answer<E: EntryLike>(
+        &self,
+        entry: &'a E,
+        suppressed: &[Variable],
+        form: LongShortForm,
+        variable: Variable,
+    ) -> Result<Option<Answer<'a>>, AllocError>
+        ensures { IfOk result (λ a. answer_if a ≡ answering.text_answer_to
+            (context_view (E.answers entry.now) self.now) suppressed.now form variable) }
+    {
+        let text = self.text_written(entry, self.asked_for(variable))?;
+        let answer = self.answer(entry, suppressed, form, variable)?;
+        Ok(as_text(text, answer))
+    }
+
+    /// The text of a number or of pages of the entry, as it was written; a cite's numbers are not the entry's.
+    fn text_written<E: EntryLike>(
+        &self,
+        entry: &E,
+        variable: Variable,
+    ) -> Result<Option<String>, AllocError>
+        ensures { IfOk result (λ t. option_map characters t ≡ answering.text_written
+            (context_view (E.answers entry.now) self.now) variable) }
+    {
+        match variable {
+            Variable::Number(number) => self.number_written(entry, number),
+            Variable::Page => self.written(entry, Variable::Page),
+            Variable::Standard(_) | Variable::Name(_) | Variable::Date(_) => Ok(None),
+        }
+    }
+
+    /// The text of a number of the entry, as it was written; a cite's numbers are not the entry's.
+    fn number_written<E: EntryLike>(
+        &self,
+        entry: &E,
+        number: NumberVariable,
+    ) -> Result<Option<String>, AllocError>
+        ensures { IfOk result (λ t. option_map characters t ≡ answering.text_written
+            (context_view (E.answers entry.now) self.now) (Variable.Number number)) }
+    {
+        match number {
+            NumberVariable::CitationNumber
+            | NumberVariable::FirstReferenceNoteNumber
+            | NumberVariable::Locator => Ok(None),
+            _ => self.written(entry, Variable::Number(number)),
+        }
+    }
+
+    /// The text of a number or of pages of the entry as it was written, where the style is a published one.
+    fn written<E: EntryLike>(
+        &self,
+        entry: &E,
+        variable: Variable,
+    ) -> Result<Option<String>, AllocError>
+        ensures { IfOk result (λ t. option_map characters t ≡ answering.written_in
+            (context_view (E.answers entry.now) self.now) variable) }
+    {
+        if !self.is_published {
+            return Ok(None);
+        }
+        entry.resolve_written(self.alloc, variable)
     }
 
     /// The variable that is asked: in a bibliography a label stands for a number or the other way round, where cites printed
@@ -148,7 +219,8 @@ impl<'s, 'a> Context<'s, 'a> {
         has_people(self.alloc, entry, variable)
     }
 
-    /// Whether the answer to the variable is more than one: numbers and pages by their value, a locator's text by its signs.
+    /// Whether the answer to the variable is more than one: numbers and pages by their value, a locator's text by its signs, and in a
+    /// published style other texts too.
     ///
     /// # Errors
     /// Out of memory.
@@ -192,7 +264,8 @@ impl<'s, 'a> Context<'s, 'a> {
         entry.is_english().unwrap_or(self.in_english)
     }
 
-    /// Whether the answer to the variable is a number or pages; of a locator whether its text spells a number.
+    /// Whether the answer to the variable is a number or pages, or in a published style a text that counts as numbers; of a locator
+    /// whether its text spells a number.
     pub(crate) fn is_numeric<E: EntryLike>(
         &self,
         entry: &'a E,
@@ -265,10 +338,26 @@ impl<'s, 'a> Context<'s, 'a> {
             NumberVariable::FirstReferenceNoteNumber => self
                 .properties
                 .first_note_answer(self.alloc),
-            NumberVariable::Locator => {
-                self.properties.locator_answer(self.alloc, self.page_ranges)
-            }
-            _ => number_of(self.alloc, entry, variable),
+            NumberVariable::Locator => self
+                .properties
+                .locator_answer(self.alloc, self.page_ranges, self.is_published),
+            _ => self.entry_number(entry, variable),
+        }
+    }
+
+    /// A number of the entry, or in a published style its text where there is no number.
+    fn entry_number<E: EntryLike>(
+        &self,
+        entry: &'a E,
+        variable: NumberVariable,
+    ) -> Result<Option<Answer<'a>>, AllocError>
+        ensures { IfOk result (λ a. answer_if a ≡ answering.of_entry
+            ((E.answers entry.now).number variable) (answering.written_in
+            (context_view (E.answers entry.now) self.now) (Variable.Number variable))) }
+    {
+        match entry.resolve_number_variable(self.alloc, variable)? {
+            Some(number) => Ok(number_or_text(number)),
+            None => Ok(written_number(self.written(entry, Variable::Number(variable))?)),
         }
     }
 
@@ -278,26 +367,28 @@ impl<'s, 'a> Context<'s, 'a> {
         entry: &'a E,
         variable: Variable,
     ) -> Result<bool, AllocError>
-        ensures { IfOk result (λ b. b ≡ answering.is_plural_answer (answering.answer_of
-            (context_view (E.answers entry.now) self.now) LongShortForm.Long variable)) }
+        ensures { IfOk result (λ b. b ≡ answering.is_plural_answer self.now.is_published
+            (answering.answer_of (context_view (E.answers entry.now) self.now)
+            LongShortForm.Long variable)) }
     {
         match self.answer_of(entry, LongShortForm::Long, variable)? {
-            Some(answer) => Ok(answer.is_plural()),
+            Some(answer) => Ok(answer.is_plural(self.is_published)),
             None => Ok(false),
         }
     }
 
-    /// Whether what is answered to the variable is a number or pages.
+    /// Whether what is answered to the variable is a number or pages, or in a published style a text that counts as numbers.
     fn has_numeric_answer<E: EntryLike>(
         &self,
         entry: &'a E,
         variable: Variable,
     ) -> Result<bool, AllocError>
-        ensures { IfOk result (λ b. b ≡ answering.is_numeric_answer (answering.answer_of
-            (context_view (E.answers entry.now) self.now) LongShortForm.Long variable)) }
+        ensures { IfOk result (λ b. b ≡ answering.is_numeric_answer self.now.is_published
+            (answering.answer_of (context_view (E.answers entry.now) self.now)
+            LongShortForm.Long variable)) }
     {
         match self.answer_of(entry, LongShortForm::Long, variable)? {
-            Some(answer) => Ok(answer.is_numeric()),
+            Some(answer) => Ok(answer.is_numeric(self.is_published)),
             None => Ok(false),
         }
     }

@@ -8,6 +8,7 @@ mod cite;
 mod context;
 mod locator;
 mod pages;
+mod stretch;
 mod variables;
 
 pub use answer::Answer;

@@ -141,14 +141,14 @@ impl<'a, P> LocatorPayload<'a, P> {
 }
 
 /// Whether there is a comma, an ampersand, a hyphen or an en dash.
-fn has_range_sign(text: &str) -> bool
+pub(crate) fn has_range_sign(text: &str) -> bool
     ensures { result ≡ list_any answering.is_range_sign (chars text.now) }
 {
     text.chars().any(|c| is_range_sign(c))
 }
 
 /// Whether it is a comma, an ampersand, a hyphen or an en dash.
-fn is_range_sign(c: char) -> bool
+pub(crate) fn is_range_sign(c: char) -> bool
     ensures { result ≡ answering.is_range_sign c }
 {
     c == ',' || c == '&' || c == '-' || c == '\u{2013}'

@@ -1,6 +1,5 @@
 -- What was appended one after the other, as pieces.
-use Rattle.std.proofs.Common.{◌≡◌, ℕ, Bool, false, List, [], ◌∷◌, ◌++◌, sym, ap, ◌∙◌}
-use Rattle.std.specs.Prelude.{if◌then◌else◌}
+use Rattle.std.proofs.Common.{◌≡◌, ℕ, List, [], ◌∷◌, ◌++◌, sym, ap, ◌∙◌}
 use Rattle.std.specs.Str.{chars}
 use Rattle.std.proofs.lemmas.List.Sums.{fold-append}
 use Rattle.std.proofs.lemmas.Str.{chars-nil}
@@ -18,19 +17,21 @@ append-after quotes m ps cs old middle new a b =
     b ∙ ap (append_normal quotes m cs) a ∙ sym (fold-append (append_piece quotes) old ps (normal m cs ∷ []))
 
 -- pieces, a text and other pieces
-append-between : (quotes : Quotes) (m : Manner) (ps qs : List Piece) (cs : List ℕ) (old first middle new : Page)
-    → first ≡ append_pieces quotes ps old → middle ≡ append_normal quotes m cs first → new ≡ append_pieces quotes qs middle
+pub append-sides : (quotes : Quotes) (m : Manner) (ps qs : List Piece) (cs ds : List ℕ) (old first middle new : Page)
+    → ds ≡ cs → first ≡ append_pieces quotes ps old → middle ≡ append_normal quotes m ds first → new ≡ append_pieces quotes qs middle
     → new ≡ append_pieces quotes (ps ++ normal m cs ∷ [] ++ qs) old
-append-between quotes m ps qs cs old first middle new a b c =
-    c ∙ ap (append_pieces quotes qs) (append-after quotes m ps cs old first middle a b) ∙ sym (fold-append (append_piece quotes) old (ps ++ normal m cs ∷ []) qs)
+append-sides quotes m ps qs cs ds old first middle new is a b c =
+    c
+    ∙ ap (append_pieces quotes qs) (append-after quotes m ps cs old first middle a (b ∙ ap (λ (t : List ℕ). append_normal quotes m t first) is))
+    ∙ sym (fold-append (append_piece quotes) old (ps ++ normal m cs ∷ []) qs)
 
--- where two do not print alike, the first without a year suffix, a text and the other
-pub append-apart : (quotes : Quotes) (m : Manner) (alike : Bool) (side : List ℕ → List Piece) (ps qs : List Piece) (cs ds : List ℕ) (old first middle new : Page)
-    → alike ≡ false → ds ≡ cs → first ≡ append_pieces quotes (side (chars [])) old → middle ≡ append_normal quotes m ds first → new ≡ append_pieces quotes qs middle
-    → new ≡ append_pieces quotes (if alike then ps else side [] ++ normal m cs ∷ [] ++ qs) old
-append-apart quotes m alike side ps qs cs ds old first middle new apart is a b c =
-    append-between quotes m (side (chars [])) qs cs old first middle new a (b ∙ ap (λ (t : List ℕ). append_normal quotes m t first) is) c
-    ∙ (λ i. append_pieces quotes (if sym apart i then ps else side (chars-nil i) ++ normal m cs ∷ [] ++ qs) old)
+-- a side without a year suffix, a text and other pieces
+pub append-whole : (quotes : Quotes) (m : Manner) (side : List ℕ → List Piece) (qs : List Piece) (cs ds : List ℕ) (old first middle new : Page)
+    → ds ≡ cs → first ≡ append_pieces quotes (side (chars [])) old → middle ≡ append_normal quotes m ds first → new ≡ append_pieces quotes qs middle
+    → new ≡ append_pieces quotes (side [] ++ normal m cs ∷ [] ++ qs) old
+append-whole quotes m side qs cs ds old first middle new is a b c =
+    append-sides quotes m (side (chars [])) qs cs ds old first middle new is a b c
+    ∙ (λ i. append_pieces quotes (side (chars-nil i) ++ normal m cs ∷ [] ++ qs) old)
 
 -- what a side prints on a page of its own
 pub append-alone : (ls : List Locale) (m : Manner) (shape : DateShape) (d : Date) (old new : Page) → old ≡ empty_page → new ≡ append_pieces [] (side_pieces ls m shape (chars []) d) old

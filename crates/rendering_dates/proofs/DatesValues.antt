@@ -1,11 +1,14 @@
--- Parts of some dates, and years of ranges.
+-- Parts of some dates, years of ranges, and the parts that the sides of ranges print.
 use Rattle.std.proofs.Common.{◌≡◌, ℕ, List, [], ◌∷◌, ◌++◌, Option, Some, None, false, codes, pos, refl}
 use Rattle.std.specs.Fmt.{digits}
 use Rattle.literature_values.specs.declared.date.Date.{Date}
 use Rattle.literature_values.specs.declared.date.DateEnd.{DateEnd}
 use Rattle.literature_values.specs.declared.date.DateEnd.TheVariants.{On, Open}
-use Rattle.rendering_locale.specs.Locales.{Locale, OrdinalEnding}
+use Rattle.rendering_locale.specs.Locales.{Locale, DatePart, OrdinalEnding}
 use Rattle.rendering_dates.specs.Dates.{dash, part_text, years_text}
+use Rattle.rendering_dates.specs.Sides.{first_parts, last_parts, without_prefix, without_suffix}
+use Rattle.rendering_taxonomy.specs.Formats.{unchanged}
+use Rattle.rendering_taxonomy.specs.declared.date.DatePartForm.{DatePartForm}
 use Rattle.rendering_taxonomy.specs.declared.date.DateDayForm.TheVariants as days
 use Rattle.rendering_taxonomy.specs.declared.date.DateMonthForm.TheVariants as months
 use Rattle.rendering_taxonomy.specs.declared.date.DatePartForm.TheVariants.{Day, Month, Year}
@@ -69,3 +72,47 @@ years_alike = refl
 pub years_open : years_text [] (date 2014 None None (Some Open)) ≡ codes "2014" ++ dash
 unfolding digits
 years_open = refl
+
+-- a part between parentheses
+abbrev part : DatePartForm → DatePart
+part form = record { form = form; strips_periods = false; text_case = None; formatting = unchanged; prefix = codes "("; suffix = codes ")"; range_delimiter = None }
+
+abbrev day : DatePart
+day = part (Day days.Numeric)
+
+abbrev month : DatePart
+month = part (Month months.Long)
+
+abbrev year : DatePart
+year = part (Year lengths.Long)
+
+-- the third of August in 2014, and other dates
+abbrev third : Date
+third = date 2014 (Some 7) (Some 2) None
+
+pub first_day : first_parts third (date 2014 (Some 7) (Some 5) None) (day ∷ month ∷ year ∷ []) ≡ without_suffix day ∷ []
+first_day = refl
+
+pub last_day : last_parts third (date 2014 (Some 7) (Some 5) None) (day ∷ month ∷ year ∷ []) ≡ without_prefix day ∷ month ∷ year ∷ []
+last_day = refl
+
+pub day_after_a_month : first_parts third (date 2014 (Some 7) (Some 5) None) (month ∷ day ∷ year ∷ []) ≡ month ∷ without_suffix day ∷ []
+day_after_a_month = refl
+
+pub first_month : first_parts third (date 2014 (Some 8) (Some 2) None) (month ∷ day ∷ year ∷ []) ≡ month ∷ without_suffix day ∷ []
+first_month = refl
+
+pub last_month : last_parts third (date 2014 (Some 8) (Some 2) None) (month ∷ day ∷ year ∷ []) ≡ without_prefix month ∷ day ∷ year ∷ []
+last_month = refl
+
+pub last_day_of_a_year : last_parts third (date 2014 (Some 7) (Some 5) None) (year ∷ month ∷ day ∷ []) ≡ without_prefix day ∷ []
+last_day_of_a_year = refl
+
+pub first_year : first_parts third (date 2015 (Some 7) (Some 2) None) (year ∷ []) ≡ without_suffix year ∷ []
+first_year = refl
+
+pub year_without_months : first_parts (date 2014 None None None) (date 2016 None None None) (year ∷ month ∷ []) ≡ without_suffix year ∷ []
+year_without_months = refl
+
+pub year_with_one_month : last_parts (date 2014 None None None) third (month ∷ year ∷ []) ≡ without_prefix month ∷ year ∷ []
+year_with_one_month = refl

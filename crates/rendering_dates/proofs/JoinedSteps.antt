@@ -1,17 +1,16 @@
 -- Parts of a date appended one after the other.
-use Rattle.std.proofs.Common.{ℕ, Bool, List, map, drop}
+use Rattle.std.proofs.Common.{ℕ, Bool, List, drop}
 use Rattle.literature_values.specs.declared.date.Date.{Date}
-use Rattle.rendering_locale.specs.Views.{part_view}
 use Rattle.rendering_locale.specs.declared.locale.DatePart.{DatePart}
 use Rattle.rendering_page.specs.Pages.{Page, Quotes}
 use Rattle.rendering_page.specs.Pieces.{Piece, append_pieces}
 use Rattle.rendering_dates.specs.Joined.{joined_from}
-use Rattle.rendering_dates.specs.Views.{changed_by, delimiter_by, parts_by}
+use Rattle.rendering_dates.specs.Views.{delimiter_by, listed_by}
 use Rattle.rendering_dates.specs.declared.sides.DateStyle.{DateStyle}
 
 -- the pieces of the parts from an index on, with the changes of the shape
 abbrev pub from_index : DateStyle → List ℕ → Date → List DatePart → ℕ → List (List Piece)
-from_index s year_suffix d ps i = parts_by s year_suffix d (changed_by s.shape (map part_view (drop i ps)))
+from_index s year_suffix d ps i = listed_by s year_suffix d (drop i ps)
 
 -- What the parts from an index on append, after those before them.
 abbrev pub append_rest : Quotes → DateStyle → List ℕ → Date → List DatePart → ℕ → Bool → Page → Page

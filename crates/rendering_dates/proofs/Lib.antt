@@ -5,3 +5,5 @@ pub mod DatesValues
 pub mod JoinedSteps
 pub mod PartsFound
 pub mod PartsNext
+pub mod SidesComplete
+pub mod SidesFound

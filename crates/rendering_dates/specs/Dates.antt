@@ -1,7 +1,7 @@
 -- Dates as they are printed, alone and as ranges. A side of a range is viewed as a date of its own.
-use Rattle.std.specs.Prelude.{ℕ, ◌+◌, Bool, true, false, not, ◌&&◌, ◌||◌, ◌==◌, List, [], ◌∷◌, ◌++◌, filter, if◌then◌else◌, Option, Some, None, ℤ, pos, codes}
+use Rattle.std.specs.Prelude.{ℕ, ◌+◌, Bool, true, false, not, ◌&&◌, ◌||◌, List, [], ◌∷◌, ◌++◌, filter, if◌then◌else◌, Option, Some, None, ℤ, pos, codes}
 use Rattle.std.specs.List.{find, flat_map}
-use Rattle.std.specs.Option.{option_and_then, option_eq, option_map_or, unwrap_or}
+use Rattle.std.specs.Option.{option_and_then, option_map_or, unwrap_or}
 use Rattle.std.specs.Ordering.{int_eq}
 use Rattle.std.specs.Fmt.{decimal}
 use Rattle.std.specs.Str.{bytes_eq}
@@ -18,6 +18,7 @@ use Rattle.rendering_numbers.specs.Years.{year_text}
 use Rattle.rendering_page.specs.Pages.{Manner, uncased, with_case, Frame, empty_page}
 use Rattle.rendering_page.specs.Pieces.{Piece, normal, framed, append_pieces}
 use Rattle.rendering_page.specs.PageCharacters.{page_text}
+use Rattle.rendering_dates.specs.Sides.{is_same_year, is_same_month, share_year, first_parts, last_parts}
 use Rattle.rendering_taxonomy.specs.declared.date.LongShortForm.{LongShortForm}
 use Rattle.rendering_taxonomy.specs.declared.date.LongShortForm.TheVariants as lengths
 use Rattle.rendering_taxonomy.specs.declared.date.DateParts.{DateParts}
@@ -76,10 +77,11 @@ is_within cuts.YearMonth p = true
 is_within cuts.Year (parts.Year form) = true
 is_within cuts.Year p = false
 
--- the parts of a date to print, and the text between two of them
+-- the parts of a date to print, the text between two of them, and whether the sides of a range print once what they share
 pub record DateShape : Type 0 where
   pub parts : List DatePart
   pub delimiter : List ℕ
+  pub merges_ranges : Bool
 
 -- the shape with so much of a date
 abbrev pub cut_to : DateParts → DateShape → DateShape
@@ -132,14 +134,6 @@ side_text ls m shape d = page_text (append_pieces [] (side_pieces ls m shape [] 
 abbrev pub dash : List ℕ
 dash = codes "–"
 
--- whether two dates are of one year
-abbrev pub is_same_year : Date → Date → Bool
-is_same_year first last = int_eq first.year last.year
-
--- whether they are of one month, whatever their years are, or both of none
-abbrev pub is_same_month : Date → Date → Bool
-is_same_month first last = option_eq (λ m n. m == n) first.month last.month
-
 -- whether a part is the largest in which they differ, if they differ
 abbrev pub differs_first : Date → Date → DatePartForm → Bool
 differs_first first last (parts.Year form) = not (is_same_year first last)
@@ -150,12 +144,44 @@ differs_first first last (parts.Day form) = is_same_year first last && is_same_m
 abbrev pub range_delimiter : Date → Date → List DatePart → List ℕ
 range_delimiter first last ps = unwrap_or (option_and_then (λ p. p.range_delimiter) (find (λ p. differs_first first last p.form) ps)) dash
 
--- the first side, what stands between and the last side, which has the year suffix; where both print the same, the first alone
+-- the first side, what stands between and the last side, which has the year suffix
+abbrev pub whole_sides : List Locale → Manner → DateShape → List ℕ → Date → Date → List Piece
+whole_sides ls m shape year_suffix first last =
+    side_pieces ls m shape [] first
+    ++ normal m (range_delimiter first last shape.parts) ∷ []
+    ++ side_pieces ls m shape year_suffix last
+
+-- the first side without what the last one prints for both; it has the year suffix if its year stands for both
+abbrev pub first_half : List Locale → Manner → DateShape → List ℕ → Date → Date → List Piece
+first_half ls m shape year_suffix first last =
+    side_pieces ls m (record shape { parts = first_parts first last shape.parts })
+    (if share_year first last then year_suffix else []) first
+
+-- the last side without what the first one prints for both
+abbrev pub last_half : List Locale → Manner → DateShape → List ℕ → Date → Date → List Piece
+last_half ls m shape year_suffix first last =
+    side_pieces ls m (record shape { parts = last_parts first last shape.parts }) year_suffix last
+
+-- both sides, which print once what they share, and what stands between
+abbrev pub merged_sides : List Locale → Manner → DateShape → List ℕ → Date → Date → List Piece
+merged_sides ls m shape year_suffix first last =
+    first_half ls m shape year_suffix first last
+    ++ normal m (range_delimiter first last shape.parts) ∷ []
+    ++ last_half ls m shape year_suffix first last
+
+-- both sides, as the shape says
+abbrev pub sides : List Locale → Manner → DateShape → List ℕ → Date → Date → List Piece
+sides ls m shape year_suffix first last =
+    if shape.merges_ranges
+    then merged_sides ls m shape year_suffix first last
+    else whole_sides ls m shape year_suffix first last
+
+-- both sides, or the first alone where both print the same
 abbrev pub both_pieces : List Locale → Manner → DateShape → List ℕ → Date → Date → List Piece
 both_pieces ls m shape year_suffix first last =
     if bytes_eq (side_text ls m shape first) (side_text ls m shape last)
     then side_pieces ls m shape year_suffix first
-    else side_pieces ls m shape [] first ++ normal m (range_delimiter first last shape.parts) ∷ [] ++ side_pieces ls m shape year_suffix last
+    else sides ls m shape year_suffix first last
 
 -- what a range ends with, as a date of its own
 abbrev pub last_side : Date → ℤ → Option ℕ → Option ℕ → Date

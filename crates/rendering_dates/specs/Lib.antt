@@ -1,4 +1,5 @@
 pub mod Changes
 pub mod Dates
 pub mod Joined
+pub mod Sides
 pub mod Views

@@ -6,13 +6,14 @@ use Rattle.laws.specs.Text.{characters, spelled}
 use Rattle.literature_values.specs.declared.date.Date.{Date}
 use Rattle.rendering_locale.specs.Locales.{DatePart}
 use Rattle.rendering_locale.specs.Views.{part_view}
+use Rattle.rendering_locale.specs.declared.locale.DatePart as slices
 use Rattle.rendering_style.specs.Views.{part_change_view}
 use Rattle.rendering_taxonomy.specs.Views.{changes_view}
 use Rattle.rendering_page.specs.Pieces.{Piece, normal}
 use Rattle.rendering_page.specs.Views.{manner_view}
 use Rattle.rendering_dates.specs.Changes.{changed_part}
 use Rattle.rendering_dates.specs.Dates as dates
-use Rattle.rendering_dates.specs.Dates.{cut_to, is_within, part_pieces, side_pieces}
+use Rattle.rendering_dates.specs.Dates.{cut_to, first_half, is_within, last_half, part_pieces, side_pieces}
 use Rattle.rendering_dates.specs.declared.changes.PrintedPart.{PrintedPart}
 use Rattle.rendering_dates.specs.declared.parts.PartText.{PartText}
 use Rattle.rendering_dates.specs.declared.parts.PartText.TheVariants.{Absent, Word, Number}
@@ -37,7 +38,11 @@ changed_by s ps = map (changed_part (map part_change_view s.changes.now)) ps
 
 -- all parts of a shape, and the text between two of them
 abbrev pub whole_shape : DateShape → dates.DateShape
-whole_shape s = record { parts = changed_by s (map part_view s.parts.now); delimiter = spelled s.delimiter }
+whole_shape s = record { parts = changed_by s (map part_view s.parts.now); delimiter = spelled s.delimiter; merges_ranges = s.merges_ranges }
+
+-- those that are printed
+abbrev pub printed_by : DateShape → List DatePart → List DatePart
+printed_by s ps = filter (λ p. is_within s.cut p.form) ps
 
 -- a shape with the parts that are printed
 abbrev pub shape_view : DateShape → dates.DateShape
@@ -55,7 +60,11 @@ delimiter_by s = normal (manner_view s.manner) (spelled s.shape.delimiter) ∷ [
 
 -- parts of a date, those that are printed
 abbrev pub parts_by : DateStyle → List ℕ → Date → List DatePart → List (List Piece)
-parts_by s year_suffix d ps = flat_map (part_pieces s.locales.now (manner_view s.manner) year_suffix d) (filter (λ p. is_within s.shape.cut p.form) ps)
+parts_by s year_suffix d ps = flat_map (part_pieces s.locales.now (manner_view s.manner) year_suffix d) (printed_by s.shape ps)
+
+-- the parts of a slice, with the changes of the shape
+abbrev pub listed_by : DateStyle → List ℕ → Date → List slices.DatePart → List (List Piece)
+listed_by s year_suffix d ps = parts_by s year_suffix d (changed_by s.shape (map part_view ps))
 
 -- one part of a date, if it is printed
 abbrev pub part_by : DateStyle → List ℕ → Date → DatePart → List (List Piece)
@@ -64,3 +73,11 @@ part_by s year_suffix d p = if is_within s.shape.cut p.form then part_pieces s.l
 -- the parts of a date that is no range
 abbrev pub side_by : DateStyle → List ℕ → Date → List Piece
 side_by s year_suffix d = side_pieces s.locales.now (manner_view s.manner) (shape_view s.shape) year_suffix d
+
+-- the first side of a range without what the last one prints for both
+abbrev pub first_half_by : DateStyle → List ℕ → Date → Date → List Piece
+first_half_by s year_suffix first last = first_half s.locales.now (manner_view s.manner) (shape_view s.shape) year_suffix first last
+
+-- the last side without what the first one prints for both
+abbrev pub last_half_by : DateStyle → List ℕ → Date → Date → List Piece
+last_half_by s year_suffix first last = last_half s.locales.now (manner_view s.manner) (shape_view s.shape) year_suffix first last

@@ -4,7 +4,8 @@ ghost use Rattle.std.specs.Prelude.{◌≡◌, ◌&&◌};
 ghost use Rattle.std.specs.List.{find};
 ghost use Rattle.std.specs.Option.{option_and_then, option_map};
 ghost use Rattle.laws.specs.Text.{spelled};
-ghost use Rattle.rendering_dates.specs.Dates.{is_same_year, is_same_month, differs_first, is_within, range_delimiter};
+ghost use Rattle.rendering_dates.specs.Dates.{differs_first, is_within, range_delimiter};
+ghost use Rattle.rendering_dates.specs.Sides.{is_same_year, is_same_month};
 ghost use Rattle.rendering_dates.specs.Views.{shape_view};
 
 use crate::changes::printed_part;
@@ -59,14 +60,14 @@ fn differs_first(first: &Date, last: &Date, form: DatePartForm) -> bool
 }
 
 /// Whether two dates are of one year.
-fn is_same_year(first: &Date, last: &Date) -> bool
+pub(crate) fn is_same_year(first: &Date, last: &Date) -> bool
     ensures { result ≡ is_same_year first.now last.now }
 {
     first.year == last.year
 }
 
 /// Whether two dates are of one month, whatever their years are, or both of none.
-fn is_same_month(first: &Date, last: &Date) -> bool
+pub(crate) fn is_same_month(first: &Date, last: &Date) -> bool
     ensures { result ≡ is_same_month first.now last.now }
 {
     first.month == last.month

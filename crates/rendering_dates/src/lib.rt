@@ -2,8 +2,10 @@
 //! affixes; both sides of a range; and years alone.
 #![tactic(auto)]
 
+mod apart;
 mod changes;
 mod delimiters;
+mod merged;
 mod parts;
 mod printed;
 mod ranges;

@@ -2,7 +2,7 @@
 
 ghost use Rattle.std.specs.Prelude.{◌≡◌, IfOk, OnOk};
 ghost use Rattle.std.specs.Str.{chars, bytes_eq};
-ghost use Rattle.rendering_dates.specs.Dates.{dash, side_text, both_pieces, last_side, date_pieces};
+ghost use Rattle.rendering_dates.specs.Dates.{dash, side_text, whole_sides, both_pieces, last_side, date_pieces};
 ghost use Rattle.rendering_dates.specs.Views.{shape_view};
 ghost use Rattle.rendering_page.specs.Pages.{append_normal};
 ghost use Rattle.rendering_page.specs.Pieces.{append_pieces};
@@ -18,7 +18,10 @@ impl<'s, 'a> DateStyle<'s, 'a> {
     /// two, and the year suffix. Of a range that prints its two sides alike the first side is appended, of
     /// another one the first side, the delimiter of the part that is the largest in which they differ, or an en dash, and the last
     /// side, which alone has the year suffix; of a range that has no end yet the first side with the year suffix, and an en dash.
-    /// Nothing is promised of the page after an error.
+    /// Where the shape merges ranges the two sides print once what they share: the first side ends with its last part that is not
+    /// shared, which has no suffix there, the last one begins with its first part that is not shared, which has no prefix there, and
+    /// the year suffix stands after the last year that is printed. A day is not shared, a month or a year is if it and the larger
+    /// parts are the same and both dates have the next smaller part or neither has. Nothing is promised of the page after an error.
     ///
     /// # Errors
     /// Out of memory alone.
@@ -59,6 +62,24 @@ impl<'s, 'a> DateStyle<'s, 'a> {
         if self.prints_alike(first, last)? {
             return self.push_side(page, year_suffix, first);
         }
+        if self.shape.merges_ranges {
+            return self.push_merged(page, year_suffix, first, last);
+        }
+        self.push_whole(page, year_suffix, first, last)
+    }
+
+    /// Appends both sides of a range whole, with what stands between them.
+    fn push_whole(
+        &self,
+        page: &mut Page<'a>,
+        year_suffix: &'a str,
+        first: &Date,
+        last: &Date,
+    ) -> Result<(), AllocError>
+        ensures { OnOk result (page.new ≡ append_pieces (quotes_view self.now.quotes.now)
+            (whole_sides self.now.locales.now (manner_view self.now.manner)
+            (shape_view self.now.shape) (chars year_suffix.now) first.now last.now) page.old) }
+    {
         let delimiter = self.shape.range_delimiter(first, last);
         self.push_side(page, "", first)?;
         page.push_text(self.quotes, self.manner, delimiter)?;

@@ -18,6 +18,8 @@ pub struct DateShape<'a> {
     pub cut: DateParts,
     /// The text between two parts that are printed.
     pub delimiter: &'a str,
+    /// Whether the sides of a range print once what they share, as in `3–6 May 2014`.
+    pub merges_ranges: bool,
 }
 
 /// Whether a part is printed where only so much of a date is.

@@ -4,7 +4,7 @@ ghost use Rattle.std.specs.Prelude.{◌≡◌, IfOk, OnOk};
 ghost use Rattle.std.specs.Str.{chars};
 ghost use Rattle.rendering_dates.specs.Dates.{filled_pieces};
 ghost use Rattle.rendering_dates.specs.Joined.{joined_from, still_first, before_next};
-ghost use Rattle.rendering_dates.specs.Views.{part_text_view, printed_view, delimiter_by, part_by, side_by};
+ghost use Rattle.rendering_dates.specs.Views.{part_text_view, printed_view, delimiter_by, part_by, side_by, listed_by};
 ghost use Rattle.rendering_page.specs.Pieces.{append_pieces};
 ghost use Rattle.rendering_page.specs.Views.{quotes_view, manner_view};
 
@@ -13,7 +13,7 @@ use crate::parts::{PartText, part_text};
 use crate::printed::push_part;
 use crate::shape::{DateShape, is_within};
 use literature_values::Date;
-use rendering_locale::AskedLocales;
+use rendering_locale::{AskedLocales, DatePart};
 use rendering_page::{Manner, Page};
 use std::alloc::{AllocError, Global};
 
@@ -41,16 +41,36 @@ impl<'s, 'a> DateStyle<'s, 'a> {
         ensures { OnOk result (page.new ≡ append_pieces (quotes_view self.now.quotes.now)
             (side_by self.now (chars year_suffix.now) date.now) page.old) }
     {
-        let mut is_first = true;
-        for part in self.shape.parts {
-            let printed = printed_part(part, self.shape.changes);
-            is_first = self.push_next(page, year_suffix, date, is_first, &printed)?;
-        }
+        self.push_parts(page, year_suffix, date, true, self.shape.parts)?;
         Ok(())
     }
 
+    /// Appends the parts of a date, those that are printed, with the delimiter between any two, and before the first unless that is
+    /// the first of all. Returns whether the next is the first of all.
+    pub(crate) fn push_parts(
+        &self,
+        page: &mut Page<'a>,
+        year_suffix: &'a str,
+        date: &Date,
+        is_first: bool,
+        parts: &'a [DatePart],
+    ) -> Result<bool, AllocError>
+        ensures page { OnOk result (page.new ≡ append_pieces
+            (quotes_view self.now.quotes.now) (joined_from is_first (delimiter_by self.now)
+            (listed_by self.now (chars year_suffix.now) date.now parts.now)) page.old) }
+        ensures first { IfOk result (λ b. b ≡ still_first is_first
+            (listed_by self.now (chars year_suffix.now) date.now parts.now)) }
+    {
+        let mut is_next_first = is_first;
+        for part in parts {
+            let printed = printed_part(part, self.shape.changes);
+            is_next_first = self.push_next(page, year_suffix, date, is_next_first, &printed)?;
+        }
+        Ok(is_next_first)
+    }
+
     /// Appends a part that is printed, after the delimiter unless it is the first, and returns whether the next is the first.
-    fn push_next(
+    pub(crate) fn push_next(
         &self,
         page: &mut Page<'a>,
         year_suffix: &'a str,

@@ -12,12 +12,14 @@ use Rattle.rendering_taxonomy.specs.declared.variable.StandardVariable.{Standard
 use Rattle.rendering_taxonomy.specs.declared.variable.NumberVariable.{NumberVariable}
 use Rattle.rendering_taxonomy.specs.declared.variable.NameVariable.{NameVariable}
 use Rattle.rendering_taxonomy.specs.declared.variable.DateVariable.{DateVariable}
+use Rattle.rendering_taxonomy.specs.declared.variable.Variable.{Variable}
 
--- What an entry answers to variables, in a form where there are forms, whether it is of a kind, whether it is in English, and
--- the bytes of its key.
+-- What an entry answers to variables, in a form where there are forms, the texts of numbers and of pages as they were written, where
+-- they are known, whether it is of a kind, whether it is in English, and the bytes of its key.
 pub record Answers : Type 0 where
   pub number : NumberVariable → Option (ValueOrText Numeral)
   pub pages : Option (ValueOrText (List Part))
+  pub written : Variable → Option (List ℕ)
   pub standard : LongShortForm → StandardVariable → Option (List Chunk)
   pub people : NameVariable → List Named
   pub date : DateVariable → Option Date

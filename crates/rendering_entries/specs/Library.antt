@@ -1,7 +1,7 @@
 -- What an entry of a library answers: each variable has its path through the works that the entry is part of.
 use Rattle.std.specs.Prelude.{ℕ, Bool, false, not, nat_eq, ◌&&◌, ◌||◌, List, [], ◌∷◌, option_and_then, Option, Some, None, Result, Ok, Err, codes}
 use Rattle.std.specs.List.{flat_map, starts_with}
-use Rattle.std.specs.Option.{option_map, option_map_or, unwrap_or}
+use Rattle.std.specs.Option.{option_map, option_map_or, option_or, unwrap_or}
 use Rattle.std.specs.Str.{chars}
 use Rattle.literature_numbers.specs.Numerics.{Numeral, numeral_of}
 use Rattle.literature_numbers.specs.Pages.{Part, first_number}
@@ -9,11 +9,12 @@ use Rattle.literature_values.specs.PersonViews.{Named}
 use Rattle.literature_values.specs.TextViews.{Chunk, Format}
 use Rattle.literature_values.specs.TypedViews.{ValueOrText, Value, Text}
 use Rattle.literature_entries.specs.Fields.{Fields}
-use Rattle.literature_entries.specs.Names.{serial}
+use Rattle.literature_entries.specs.Names.{serial, written}
 use Rattle.literature_entries.specs.EntriesData.{EntryData}
 use Rattle.rendering_entries.specs.Answers.{Answers}
 use Rattle.rendering_entries.specs.Works.{Ancestry, ancestry, is_one_of, nearest, first_parent, container, collection, is_article_in}
 use Rattle.rendering_numbers.specs.SuffixesAndLabels.{citation_label}
+use Rattle.rendering_ranges.specs.Dashes.{first_in}
 use Rattle.texts.specs.declared.reader.Unreadable.{Unreadable}
 use Rattle.literature_values.specs.declared.date.Date.{Date}
 use Rattle.literature_values.specs.declared.entry_type.EntryType.TheVariants as types
@@ -26,6 +27,8 @@ use Rattle.rendering_taxonomy.specs.declared.variable.StandardVariable.{Standard
 use Rattle.rendering_taxonomy.specs.declared.variable.StandardVariable.TheVariants as standard
 use Rattle.rendering_taxonomy.specs.declared.variable.NumberVariable.{NumberVariable}
 use Rattle.rendering_taxonomy.specs.declared.variable.NumberVariable.TheVariants as number
+use Rattle.rendering_taxonomy.specs.declared.variable.Variable.{Variable}
+use Rattle.rendering_taxonomy.specs.declared.variable.Variable.TheVariants as variables
 use Rattle.rendering_taxonomy.specs.declared.variable.NameVariable.{NameVariable}
 use Rattle.rendering_taxonomy.specs.declared.variable.NameVariable.TheVariants as name
 use Rattle.rendering_taxonomy.specs.declared.variable.DateVariable.{DateVariable}
@@ -107,6 +110,45 @@ number_answer s number.PageFirst = option_and_then first_page s.own.page_range
 number_answer s number.Volume = nearest (λ fs. fs.volume) s
 number_answer s v = None
 
+-- the text of a number or of pages as it was written, by the name of its field
+abbrev pub text_under : List ℕ → Fields → Option (List ℕ)
+text_under field fs = option_map chars (written field fs)
+
+-- the same in the work that answers for a number: the entry, or else the first of its ancestors that has the number
+abbrev pub nearest_text : List ℕ → (Fields → Option (ValueOrText Numeral)) → Ancestry
+    → Option (List ℕ)
+nearest_text field look s =
+    option_and_then (text_under field) (nearest (λ fs. option_map (λ n. fs) (look fs)) s)
+
+-- the text that stands instead of pages
+abbrev pub text_instead : ValueOrText (List Part) → Option (List ℕ)
+text_instead (Value ps) = None
+text_instead (Text cs) = Some cs
+
+-- the text of pages as it was written
+abbrev pub page_text : Fields → Option (List ℕ)
+page_text fs =
+    option_or (text_under (codes "page-range") fs) (option_and_then text_instead fs.page_range)
+
+-- Numbers as they were written; the first page is what stands before the first dash, comma or ampersand.
+abbrev pub number_written : Ancestry → NumberVariable → Option (List ℕ)
+number_written s number.ChapterNumber = text_under (codes "chapter") s.own
+number_written s number.Edition = nearest_text (codes "edition") (λ fs. fs.edition) s
+number_written s number.Issue = nearest_text (codes "issue") (λ fs. fs.issue) s
+number_written s number.Number = option_map chars (serial (codes "serial") s.own)
+number_written s number.NumberOfPages = text_under (codes "page-total") s.own
+number_written s number.NumberOfVolumes =
+    nearest_text (codes "volume-total") (λ fs. fs.volume_total) s
+number_written s number.PageFirst = option_map first_in (page_text s.own)
+number_written s number.Volume = nearest_text (codes "volume") (λ fs. fs.volume) s
+number_written s v = None
+
+-- numbers and pages as they were written, where it is known
+abbrev pub written_answer : Ancestry → Variable → Option (List ℕ)
+written_answer s (variables.Number v) = number_written s v
+written_answer s variables.Page = page_text s.own
+written_answer s v = None
+
 -- People. Entries of a library have none for other variables.
 abbrev pub people_answer : Ancestry → NameVariable → List Named
 people_answer s name.Author = people_or_none s.own.author
@@ -121,12 +163,14 @@ label_of letters s =
     citation_label letters (people_answer s name.Author) (people_answer s name.Editor)
     (option_map_or characters_of (long_text s.own.title) []) (option_map (λ d. d.year) s.own.date)
 
--- Texts. Only the title has a short form. Entries of a library have none for other variables; the year suffix is the cite's.
+-- Texts. Only the title has a short form, and `event` is an older name of `event-title`. Entries of a library have none for other variables;
+-- the year suffix is the cite's.
 abbrev pub standard_answer : Ancestry → LongShortForm → StandardVariable → Option (List Chunk)
 standard_answer s form standard.CitationLabel = Some (one_chunk (label_of 3 s))
 standard_answer s form standard.CollectionTitle = title_of (collection s)
 standard_answer s form standard.ContainerTitle = title_of (container s)
 standard_answer s form standard.Doi = serial_text (serial (codes "doi") s.own)
+standard_answer s form standard.Event = title_of (first_parent (types.Conference ∷ []) s)
 standard_answer s form standard.EventTitle = title_of (first_parent (types.Conference ∷ []) s)
 standard_answer s form standard.Isbn = serial_text (nearest (serial (codes "isbn")) s)
 standard_answer s form standard.Issn = serial_text (nearest (serial (codes "issn")) s)
@@ -170,6 +214,7 @@ abbrev pub answers_among : Ancestry → Answers
 answers_among s = record {
   number = number_answer s;
   pages = s.own.page_range;
+  written = written_answer s;
   standard = standard_answer s;
   people = people_answer s;
   date = date_answer s;

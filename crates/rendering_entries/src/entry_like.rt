@@ -3,6 +3,7 @@
 ghost use Rattle.std.specs.Prelude.{◌≡◌, true, IfOk, IsTrue, map};
 ghost use Rattle.std.specs.Cow.{cow_value, cow_str_bytes};
 ghost use Rattle.std.specs.Option.{option_map};
+ghost use Rattle.laws.specs.Text.{characters};
 ghost use Rattle.literature_numbers.specs.PageViews.{pages_view};
 ghost use Rattle.literature_values.specs.TypedViews.{typed_view};
 ghost use Rattle.literature_values.specs.PersonViews.{lent_person_view};
@@ -11,7 +12,7 @@ ghost use Rattle.rendering_entries.specs.Views.{lent_number_view, lent_text_view
 
 use literature_values::{ChunkedString, Date, MaybeTyped, Numeric, PageRanges, Person};
 use rendering_taxonomy::{
-    DateVariable, Kind, LongShortForm, NameVariable, NumberVariable, StandardVariable,
+    DateVariable, Kind, LongShortForm, NameVariable, NumberVariable, StandardVariable, Variable,
 };
 use std::alloc::{AllocError, Global};
 use std::borrow::{Cow, CowStr};
@@ -39,6 +40,15 @@ pub trait EntryLike: Eq {
     ) -> Result<Option<MaybeTyped<PageRanges>>, AllocError>
         ensures { IfOk result (λ p. option_map (typed_view pages_view) p
             ≡ (answers self.now).pages) };
+
+    /// The text of a number or of pages as it was written, by the variable, where it is known. Numbers of a cite are not the entry's.
+    fn resolve_written(
+        &self,
+        alloc: Global,
+        variable: Variable,
+    ) -> Result<Option<String>, AllocError>
+        ensures { IfOk result (λ t. option_map characters t
+            ≡ (answers self.now).written variable) };
 
     /// The text of a variable, in the long or the short form. A variable without a short form has the long one instead.
     fn resolve_standard_variable(

@@ -11,6 +11,7 @@ mod numbers;
 mod people;
 mod standard;
 mod works;
+mod written;
 
 pub use entry_like::{EntryLike, are_one_entry};
 pub use labels::Alphanumerical;

@@ -13,10 +13,11 @@ use crate::kinds::kind_answer;
 use crate::numbers::number_answer;
 use crate::people::people_answer;
 use crate::standard::standard_answer;
+use crate::written::written_answer;
 use literature_entries::Entry;
 use literature_values::{ChunkedString, Date, MaybeTyped, Numeric, PageRanges, Person};
 use rendering_taxonomy::{
-    DateVariable, Kind, LongShortForm, NameVariable, NumberVariable, StandardVariable,
+    DateVariable, Kind, LongShortForm, NameVariable, NumberVariable, StandardVariable, Variable,
 };
 use std::alloc::{AllocError, Global};
 use std::borrow::{Cow, CowStr};
@@ -46,6 +47,14 @@ impl EntryLike for Entry {
         _alloc: Global,
     ) -> Result<Option<MaybeTyped<PageRanges>>, AllocError> {
         page_answer(self)
+    }
+
+    fn resolve_written(
+        &self,
+        alloc: Global,
+        variable: Variable,
+    ) -> Result<Option<String>, AllocError> {
+        written_answer(alloc, self, variable)
     }
 
     fn resolve_standard_variable(

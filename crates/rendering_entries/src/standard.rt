@@ -22,7 +22,8 @@ use std::alloc::{AllocError, Global};
 use std::borrow::Cow;
 use texts::owned;
 
-/// The text of a variable in a form. Entries have none for other variables; the year suffix is a cite's.
+/// The text of a variable in a form; `event` is an older name of `event-title`. Entries have none for other variables; the year suffix
+/// is a cite's.
 ///
 /// # Errors
 /// Out of memory.
@@ -40,7 +41,9 @@ pub(crate) fn standard_answer(
         StandardVariable::CollectionTitle => Ok(title_of(collection(entry)?)),
         StandardVariable::ContainerTitle => Ok(title_of(container(entry))),
         StandardVariable::Doi => serial_text(alloc, entry.doi()),
-        StandardVariable::EventTitle => Ok(title_of(first_parent(entry, EntryType::Conference))),
+        StandardVariable::Event | StandardVariable::EventTitle => {
+            Ok(title_of(first_parent(entry, EntryType::Conference)))
+        }
         StandardVariable::Isbn => serial_text(alloc, nearest_isbn(entry)?),
         StandardVariable::Issn => serial_text(alloc, nearest_issn(entry)?),
         StandardVariable::Note => Ok(long_text(entry.note())),

@@ -20,6 +20,8 @@ inside-parts c m (forms.AuthorOnly v) d year_suffix day other = refl
 inside-parts c m forms.WithoutAuthor d year_suffix day other = refl
 inside-parts c m forms.FirstDateOnly d year_suffix day other = refl
 inside-parts c m forms.SuffixOnly d year_suffix day other = absurd (other refl)
+inside-parts c m (forms.AuthorsAlone v) d year_suffix day other = refl
+inside-parts c m (forms.WithoutNames v) d year_suffix day other = refl
 
 -- the year suffix of the first date
 pub day-year_suffix : (c : Context) (s : NodeSetting) (d : DateNode) (has_date : Bool) (day : Option Date) → day_in c s d (date_suffix c has_date) day ≡ day_pieces c s has_date d day

@@ -1,8 +1,9 @@
 -- What leaves append, by what stands on the page before and after.
 use Rattle.std.proofs.Common.{◌≡◌, Bool, ap, ◌∙◌}
-use Rattle.rendering_context.specs.Answering.{Answer, answer_to, is_plural_variable}
+use Rattle.rendering_context.specs.Answering.{Answer, answer_to, is_plural_variable, text_answer_to}
 use Rattle.rendering_context.specs.Contexts.{Context}
 use Rattle.rendering_leaves.specs.NodeSettings.{NodeSetting, State}
+use Rattle.rendering_leaves.specs.Quoted.{are_inner, requoted}
 use Rattle.rendering_leaves.specs.Parts.{in_label, in_number, in_text, labelled}
 use Rattle.rendering_leaves.specs.Values.{after_variable, append_leaf, label_pieces, number_pieces, text_manner, text_pieces}
 use Rattle.rendering_leaves.proofs.StatesAppended.{append-page}
@@ -31,11 +32,11 @@ module _ (c : Context) (s : NodeSetting) (old now : State) (same : now ≡ old) 
       (e ∙ ap (λ (x : Answer). append_pieces c.quotes (in_number c s n x) now.page) (is ∙ ap (λ (x : State). answer_to c x.suppressed lengths.Long n.variable) same)))
 
   -- the answer to a variable, likewise
-  pub variable-appended : (v : Variable) (form : LongShortForm) (look : TextLook) (answer : Answer) (new : State) → answer ≡ answer_to c now.suppressed form v
+  pub variable-appended : (v : Variable) (form : LongShortForm) (look : TextLook) (answer : Answer) (new : State) → answer ≡ requoted c (are_inner look.quotes s.inside_quotes) (text_answer_to c now.suppressed form v)
       → page ≡ append_pieces c.quotes (in_text c s look (labelled c (text_manner s.manner look) v answer)) now.page → new ≡ after_variable c s v (record now { page = page })
       → new ≡ append_leaf c s (nodes.text (of_variable v form) look) old
   variable-appended v form look answer new is e known =
       known
       ∙ ap (after_variable c s v) (append-page c (text_pieces c s old.suppressed (of_variable v form) look) old now page same
       (e ∙ ap (λ (x : Answer). append_pieces c.quotes (in_text c s look (labelled c (text_manner s.manner look) v x)) now.page)
-      (is ∙ ap (λ (x : State). answer_to c x.suppressed form v) same)))
+      (is ∙ ap (λ (x : State). requoted c (are_inner look.quotes s.inside_quotes) (text_answer_to c x.suppressed form v)) same)))

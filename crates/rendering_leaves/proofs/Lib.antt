@@ -3,3 +3,4 @@ pub mod DatesInside
 pub mod StatesAppended
 pub mod SuffixesCased
 pub mod LeavesAppended
+pub mod QuotesInside

@@ -5,7 +5,7 @@ use Rattle.rendering_cases.specs.Cases.{cased_chunks, cased_text, changed_betwee
 use Rattle.rendering_cases.specs.Words.{is_in_capitals}
 use Rattle.rendering_entries.specs.Library.{one_chunk}
 use Rattle.rendering_page.specs.Pages.{Manner, uncased}
-use Rattle.rendering_page.specs.Pieces.{Piece, normal, chunk_pieces, each_piece}
+use Rattle.rendering_page.specs.Pieces.{normal, chunk_pieces, each_piece}
 use Rattle.rendering_taxonomy.specs.declared.text_case.TextCase.{TextCase}
 
 -- a text of one piece in a case is its characters in that case

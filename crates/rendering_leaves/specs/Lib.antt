@@ -1,4 +1,5 @@
 pub mod NodeSettings
+pub mod Quoted
 pub mod Values
 pub mod Views
 pub mod Parts

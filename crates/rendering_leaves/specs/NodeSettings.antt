@@ -10,13 +10,16 @@ use Rattle.rendering_taxonomy.specs.declared.variable.NameVariable.{NameVariable
 use Rattle.rendering_taxonomy.specs.declared.variable.Variable.{Variable}
 
 -- What is printed of a layout: all; the names of a variable alone; all but the names of authors; the first date, year suffixes and
--- locators; year suffixes and locators alone.
+-- locators; year suffixes and locators alone. In a published style the names of a variable alone have no affixes of the nodes round them,
+-- and where they are left out nothing stands for them.
 pub data SpecialForm : Type 0 where
   whole : SpecialForm
   author_only : NameVariable → SpecialForm
   without_author : SpecialForm
   first_date_only : SpecialForm
   suffix_only : SpecialForm
+  authors_alone : NameVariable → SpecialForm
+  without_names : NameVariable → SpecialForm
 
 -- What is handed down: how texts are appended, whether quotes are inner ones, what stands between the children of the group around, the
 -- options for names of the layout and the style, or of a key, whether a substitute for names is printed, and what is printed of the layout.
@@ -34,7 +37,8 @@ pub record Used : Type 0 where
   pub number : Bool
 
 -- What was appended, whether the first date was, the variables that are not printed again, whether the test `disambiguate` was
--- evaluated, what was printed of the first names by their options, and which identifiers were printed.
+-- evaluated, what was printed of the first names by their options, which identifiers were printed, whether the style is a published one,
+-- and the variables that substitutes printed in it.
 pub record State : Type 0 where
   pub page : Page
   pub has_date : Bool
@@ -42,6 +46,8 @@ pub record State : Type 0 where
   pub met_disambiguate : Bool
   pub names : Option Properties
   pub used : Used
+  pub is_published : Bool
+  pub printed : List Variable
 
 -- the state before anything was appended
 abbrev pub begun : State
@@ -52,6 +58,8 @@ begun = record {
   met_disambiguate = false;
   names = None;
   used = record { label = false; number = false };
+  is_published = false;
+  printed = [];
 }
 
 -- pieces are appended
@@ -65,3 +73,14 @@ noted met st = record st { met_disambiguate = st.met_disambiguate || met }
 -- a variable beside those that are not printed again
 abbrev pub with_variable : List Variable → Variable → List Variable
 with_variable vs v = if is_among vs v then vs else vs ++ v ∷ []
+
+-- a variable that a substitute printed is not printed again: at once, or in a published style once the substitute stands
+abbrev pub with_printed : Variable → State → State
+with_printed v st =
+    if st.is_published
+    then record st { printed = with_variable st.printed v }
+    else record st { suppressed = with_variable st.suppressed v }
+
+-- once a substitute stands, what was printed in it is not printed again
+abbrev pub standing : State → State
+standing st = if st.is_published then record st { suppressed = st.printed } else st

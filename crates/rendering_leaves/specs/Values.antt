@@ -1,15 +1,18 @@
 -- What text, number, label and date nodes append.
-use Rattle.std.specs.Prelude.{ℕ, Bool, true, false, ◌||◌, List, [], ◌∷◌, ◌++◌, map, if◌then◌else◌, Option, Some, None}
+use Rattle.std.specs.Prelude.{ℕ, Bool, true, false, not, ◌&&◌, ◌||◌, List, [], ◌∷◌, ◌++◌, map, if◌then◌else◌, Option, Some, None}
+use Rattle.std.specs.List.{list_any}
 use Rattle.std.specs.Option.{option_and_then, option_map_or, unwrap_or}
 use Rattle.rendering_taxonomy.specs.Formats.{changed}
 use Rattle.rendering_taxonomy.specs.Variables.{is_variable}
 use Rattle.rendering_tree.specs.Metas as metas
 use Rattle.rendering_tree.specs.Metas.{Meta}
-use Rattle.rendering_locale.specs.Locales.{DatePart, LocalizedDate}
+use Rattle.rendering_locale.specs.Locales.{DatePart, Locale, LocalizedDate}
 use Rattle.rendering_locale.specs.Lookup.{term_text, quote_text, ordinals_of, date_found}
 use Rattle.literature_numbers.specs.Pages.{Part}
 use Rattle.literature_values.specs.TypedViews.{ValueOrText, Value, Text}
 use Rattle.rendering_numbers.specs.Numbers.{numeral_or_text}
+use Rattle.rendering_ranges.specs.Delimited.{delimited}
+use Rattle.rendering_ranges.specs.Lettered.{lettered}
 use Rattle.rendering_ranges.specs.Ranges.{pages_in}
 use Rattle.literature_values.specs.declared.date.Date.{Date}
 use Rattle.rendering_dates.specs.Changes.{changed_part}
@@ -20,16 +23,20 @@ use Rattle.rendering_style.specs.Nodes.{Look, TextSource, of_variable, of_term, 
 use Rattle.rendering_style.specs.Nodes as nodes
 use Rattle.rendering_names.specs.Names.{pluralizes, label_manner}
 use Rattle.rendering_context.specs.Contexts.{Context}
-use Rattle.rendering_leaves.specs.NodeSettings.{with_variable, SpecialForm, suffix_only, NodeSetting, State, append}
-use Rattle.rendering_context.specs.Answering.{Answer, no_answer, pieces, address, count, ranges, own, answer_to, asked_for, date_answer, is_plural_variable}
+use Rattle.rendering_leaves.specs.NodeSettings.{SpecialForm, suffix_only, NodeSetting, State, append, with_printed}
+use Rattle.rendering_leaves.specs.Quoted.{are_inner, requoted}
+pub use Rattle.rendering_leaves.specs.Quoted.{close_term, open_term}
+use Rattle.rendering_context.specs.Answering.{Answer, no_answer, pieces, address, count, ranges, own, answer_to, text_answer_to, dashed_if, asked_for, date_answer, is_plural_variable}
+use Rattle.rendering_taxonomy.specs.declared.date.DatePartForm.{DatePartForm}
+use Rattle.rendering_taxonomy.specs.declared.date.DatePartForm.TheVariants as parts
 use Rattle.rendering_taxonomy.specs.declared.date.LongShortForm.TheVariants as lengths
 use Rattle.rendering_taxonomy.specs.declared.number.NumberForm.{NumberForm}
 use Rattle.rendering_taxonomy.specs.declared.number.NumberForm.TheVariants as number_forms
 use Rattle.rendering_taxonomy.specs.declared.page.PageRangeFormat.{PageRangeFormat}
-use Rattle.rendering_taxonomy.specs.declared.term.OtherTerm.{OtherTerm}
 use Rattle.rendering_taxonomy.specs.declared.term.OtherTerm.TheVariants as others
 use Rattle.rendering_taxonomy.specs.declared.term.Term.{Term}
 use Rattle.rendering_taxonomy.specs.declared.term.Term.TheVariants as terms
+use Rattle.rendering_taxonomy.specs.declared.term.TermForm.TheVariants as term_forms
 use Rattle.rendering_taxonomy.specs.declared.variable.NumberVariable.TheVariants as number
 use Rattle.rendering_taxonomy.specs.declared.variable.StandardVariable.TheVariants as standard
 use Rattle.rendering_taxonomy.specs.declared.variable.Variable.{Variable}
@@ -56,16 +63,6 @@ date_manner m d = with_case d.text_case (look_manner m d.look)
 abbrev pub frame : Manner → Option Meta → Look → Frame
 frame m meta l = record { display = l.display; meta = meta; manner = m; prefix = l.prefix; suffix = l.suffix }
 
--- the open quotes, of which those inside others are of another kind
-abbrev pub open_term : Bool → OtherTerm
-open_term false = others.OpenQuote
-open_term true = others.OpenInnerQuote
-
--- the close quotes, of which those inside others are of another kind
-abbrev pub close_term : Bool → OtherTerm
-close_term false = others.CloseQuote
-close_term true = others.CloseInnerQuote
-
 -- what a node appends before what it prints, where it stands in quotes
 abbrev pub quote_before : Context → Manner → Bool → Bool → List Piece
 quote_before c m false inside = []
@@ -80,18 +77,30 @@ quote_after c m true inside = close_quote m (quote_text c.locales (terms.Other (
 abbrev pub meaning : Manner → Meta → List Piece → List Piece
 meaning m meta ps = framed (record { display = None; meta = Some meta; manner = m; prefix = []; suffix = [] }) ps
 
--- pages in a format, where there is one, or a text instead of them
-abbrev pub ranges_in : Option PageRangeFormat → ValueOrText (List Part) → List ℕ
-ranges_in format (Value ps) = pages_in format ps
-ranges_in format (Text cs) = cs
+-- pages in a format, where there is one, or a text instead of them, which a published style prints in the format too
+abbrev pub ranges_in : Option PageRangeFormat → Bool → ValueOrText (List Part) → List ℕ
+ranges_in format is_published (Value ps) = pages_in format ps
+ranges_in format is_published (Text cs) = if is_published then lettered format cs else cs
 
--- an answer, with numbers in a form, and ranges of pages as the style shortens them
+-- the text that locales have for ranges of pages
+abbrev pub page_delimiter : List Locale → List ℕ
+page_delimiter ls =
+    term_text ls (terms.Other others.PageRangeDelimiter) term_forms.Long false
+
+-- pages as the style shortens them, in a published one with the text of locales in their ranges
+abbrev pub printed_pages : List Locale → Option PageRangeFormat → Bool →
+    ValueOrText (List Part) → List ℕ
+printed_pages ls format is_published ps =
+    let printed = ranges_in format is_published ps in
+    if is_published then delimited (page_delimiter ls) printed else printed
+
+-- an answer, with numbers in a form, and pages as the style prints them
 abbrev pub answer_pieces : Context → Manner → NumberForm → Answer → List Piece
 answer_pieces c m form no_answer = []
 answer_pieces c m form (pieces cs) = chunk_pieces m cs
 answer_pieces c m form (address cs url) = linked m.formatting cs url ∷ []
 answer_pieces c m form (count n) = normal m (numeral_or_text (ordinals_of c.locales) form n) ∷ []
-answer_pieces c m form (ranges ps) = normal m (ranges_in c.page_ranges ps) ∷ []
+answer_pieces c m form (ranges ps) = normal m (printed_pages c.locales c.page_ranges c.is_published ps) ∷ []
 answer_pieces c m form own = own_locator m.formatting c.properties.initial_idx ∷ []
 
 -- what one of the two variables that identify entries answers stands in an element of its own
@@ -117,17 +126,17 @@ abbrev pub label_suffix : Context → Manner → Variable → List Piece
 label_suffix c m v = if is_label_variable v then normal m (own_year_suffix c) ∷ [] else []
 
 -- what a text node prints, without its quotes
-abbrev pub source_pieces : Context → List Variable → Manner → TextSource → List Piece
-source_pieces c suppressed m (of_variable v form) = identified m v (answer_pieces c m number_forms.Numeric (answer_to c suppressed form v)) ++ label_suffix c m v
-source_pieces c suppressed m (of_term name form plural) = normal m (term_text c.locales name form plural) ∷ []
-source_pieces c suppressed m (of_value cs) = normal m cs ∷ []
+abbrev pub source_pieces : Context → Bool → List Variable → Manner → TextSource → List Piece
+source_pieces c inner suppressed m (of_variable v form) = identified m v (answer_pieces c m number_forms.Numeric (requoted c inner (text_answer_to c suppressed form v))) ++ label_suffix c m v
+source_pieces c inner suppressed m (of_term name form plural) = normal m (term_text c.locales name form plural) ∷ []
+source_pieces c inner suppressed m (of_value cs) = normal m cs ∷ []
 
 -- what a text node prints
 abbrev pub text_pieces : Context → NodeSetting → List Variable → TextSource → TextLook → List Piece
 text_pieces c s suppressed source look =
     framed (frame s.manner (Some metas.Text) look.look)
     (quote_before c (text_manner s.manner look) look.quotes s.inside_quotes
-    ++ source_pieces c suppressed (text_manner s.manner look) source
+    ++ source_pieces c (are_inner look.quotes s.inside_quotes) suppressed (text_manner s.manner look) source
     ++ quote_after c (text_manner s.manner look) look.quotes s.inside_quotes)
 
 -- what a number node prints
@@ -157,11 +166,16 @@ abbrev pub own_or : List DatePart → List DatePart → List DatePart
 own_or [] others = others
 own_or (p ∷ ps) others = p ∷ ps
 
--- the parts of a date, with what is changed of them, and what stands between them: a node's own, or else those of the locale for its form
+-- the parts of a date: a node's own, or else those of the locale for its form
+abbrev pub parts_of : Context → DateNode → List DatePart
+parts_of c d = own_or d.own_parts (option_map_or (λ l. l.parts) (localized c d) [])
+
+-- these with what is changed of them, and what stands between them
 abbrev pub shape_of : Context → DateNode → DateShape
 shape_of c d = record {
-  parts = map (changed_part d.part_changes) (own_or d.own_parts (option_map_or (λ l. l.parts) (localized c d) []));
+  parts = map (changed_part d.part_changes) (parts_of c d);
   delimiter = unwrap_or d.delimiter (option_map_or (λ l. l.delimiter) (localized c d) []);
+  merges_ranges = d.merges_ranges;
 }
 
 -- what a date prints: the year suffix alone, as it is, where it is all that is wanted, else its parts
@@ -174,6 +188,19 @@ abbrev pub date_frame : NodeSetting → SpecialForm → DateNode → Frame
 date_frame s suffix_only d = record (frame s.manner (Some metas.Date) d.look) { prefix = []; suffix = [] }
 date_frame s form d = frame s.manner (Some metas.Date) d.look
 
+-- whether a part is the year
+abbrev pub is_year : DatePartForm → Bool
+is_year (parts.Year form) = true
+is_year form = false
+
+-- whether a date node prints years; so much of a date always has the year
+abbrev pub prints_year : Context → DateNode → Bool
+prints_year c d = list_any (λ p. is_year p.form) (parts_of c d)
+
+-- whether a date is no first one: in a published style a date without a year
+abbrev pub is_passed_over : Context → DateNode → State → Bool
+is_passed_over c d st = st.is_published && not (prints_year c d)
+
 -- the year suffix stands after the year of the first date alone
 abbrev pub date_suffix : Context → Bool → List ℕ
 date_suffix c has_date = if has_date then [] else own_year_suffix c
@@ -185,7 +212,7 @@ day_pieces c s has_date d (Some day) = framed (date_frame s s.form d) (date_insi
 
 -- the state in which a variable that a substitute prints is not printed again
 abbrev pub suppressing : NodeSetting → Variable → State → State
-suppressing s v st = if s.in_substitute then record st { suppressed = with_variable st.suppressed v } else st
+suppressing s v st = if s.in_substitute then with_printed v st else st
 
 -- the state once a variable was printed, by which it is known which identifiers cites printed
 abbrev pub using : Context → Variable → State → State
@@ -208,4 +235,5 @@ append_leaf c s (nodes.text source look) st = append_text_node c s source look s
 append_leaf c s (nodes.number n) st = after_variable c s n.variable (append c (number_pieces c s st.suppressed n) st)
 append_leaf c s (nodes.label v look) st = append c (label_pieces c s v look) st
 append_leaf c s (nodes.date d) st =
-    record (suppressing s (variables.Date d.variable) (append c (day_pieces c s st.has_date d (date_answer c st.suppressed d.variable)) st)) { has_date = true }
+    record (suppressing s (variables.Date d.variable) (append c (day_pieces c s (is_passed_over c d st || st.has_date) d (date_answer c st.suppressed d.variable)) st))
+    { has_date = not (is_passed_over c d st) || st.has_date }

@@ -15,6 +15,8 @@ form_view (forms.AuthorOnly v) = settings.author_only v
 form_view forms.WithoutAuthor = settings.without_author
 form_view forms.FirstDateOnly = settings.first_date_only
 form_view forms.SuffixOnly = settings.suffix_only
+form_view (forms.AuthorsAlone v) = settings.authors_alone v
+form_view (forms.WithoutNames v) = settings.without_names v
 
 -- what is handed down
 abbrev pub setting_view : NodeSetting → settings.NodeSetting

@@ -1,6 +1,6 @@
 //! Date nodes.
 
-ghost use Rattle.std.specs.Prelude.{◌≡◌, None, OnOk};
+ghost use Rattle.std.specs.Prelude.{◌≡◌, not, ◌&&◌, ◌||◌, None, OnOk};
 ghost use Rattle.std.specs.Cow.{cow_value};
 ghost use Rattle.std.specs.Option.{option_map};
 ghost use Rattle.std.specs.Str.{chars};
@@ -10,14 +10,14 @@ ghost use Rattle.rendering_dates.specs.Dates.{cut_to};
 ghost use Rattle.rendering_dates.specs.Views.{shape_view};
 ghost use Rattle.rendering_entries.specs.Answers.{Answers};
 ghost use Rattle.rendering_leaves.specs.Parts.{day_in, in_date};
-ghost use Rattle.rendering_leaves.specs.Values.{date_frame, date_inside, date_manner, date_suffix, append_leaf, shape_of};
+ghost use Rattle.rendering_leaves.specs.Values.{date_frame, date_inside, date_manner, date_suffix, append_leaf, prints_year, shape_of};
 ghost use Rattle.rendering_leaves.specs.Views.{setting_view};
 ghost use Rattle.rendering_page.specs.Pieces.{append_pieces};
 ghost use Rattle.rendering_page.specs.Views.{frame_view, manner_view, quotes_view};
 ghost use Rattle.rendering_style.specs.Nodes as nodes;
 ghost use Rattle.rendering_style.specs.Views.{date_node_view};
 
-use crate::date_shape::date_shape;
+use crate::date_shape::{date_shape, prints_year};
 use crate::entry_identifiers::own_year_suffix;
 use crate::node_frame::{bare_frame, date_manner, frame_of};
 use crate::node_setting::{NodeSetting, SpecialForm};
@@ -35,7 +35,8 @@ use std::alloc::AllocError;
 use std::borrow::Cow;
 use texts::no_text;
 
-/// Appends a date node: the date of its variable, with the year suffix of the first date.
+/// Appends a date node: the date of its variable, with the year suffix of the first date, in a published style of the first one that
+/// prints a year.
 ///
 /// # Errors
 /// Out of memory.
@@ -50,18 +51,36 @@ pub fn push_date<'a, E: EntryLike>(
         (setting_view setting.now) (nodes.date (date_node_view node.now)) state.old) }
 {
     let day = context.date(entry, &state.suppressed, node.variable);
-    let year_suffix = date_suffix(context, state.has_date);
+    let has_date = state.has_date;
+    let is_passed_over = is_passed_over(context, node, state.is_published);
+    let year_suffix = date_suffix(context, is_passed_over, has_date);
     append_answer(context, setting, node, year_suffix, day, &mut state.page)?;
     suppress_in_substitute(setting, Variable::Date(node.variable), state)?;
-    state.has_date = true;
+    state.has_date = has_date_after(is_passed_over, has_date);
     Ok(())
 }
 
-/// The year suffix of a date, which only the first date has.
-fn date_suffix<'a>(context: &Context<'_, 'a>, has_date: bool) -> &'a str
-    ensures { (a : Answers) → spelled result ≡ date_suffix (context_view a context.now) has_date }
+/// Whether a date is no first one: in a published style a date without a year.
+fn is_passed_over(context: &Context<'_, '_>, node: &Date, is_published: bool) -> bool
+    ensures { (a : Answers) → result ≡ (is_published
+        && not (prints_year (context_view a context.now) (date_node_view node.now))) }
 {
-    if has_date {
+    is_published && !prints_year(context, node)
+}
+
+/// Whether the first date was printed, after a date.
+fn has_date_after(is_passed_over: bool, has_date: bool) -> bool
+    ensures { result ≡ (not is_passed_over || has_date) }
+{
+    !is_passed_over || has_date
+}
+
+/// The year suffix of a date, which only the first date has that is not passed over.
+fn date_suffix<'a>(context: &Context<'_, 'a>, is_passed_over: bool, has_date: bool) -> &'a str
+    ensures { (a : Answers) → spelled result
+        ≡ date_suffix (context_view a context.now) (is_passed_over || has_date) }
+{
+    if is_passed_over || has_date {
         no_text()
     } else {
         own_year_suffix(context)

@@ -1,13 +1,14 @@
 //! The parts of a date node, what is changed of them, and what stands between them: its own, or else those of a locale.
 
 ghost use Rattle.std.specs.Prelude.{◌≡◌, [], map};
+ghost use Rattle.std.specs.List.{list_any};
 ghost use Rattle.std.specs.Option.{option_and_then, option_map, option_map_or, unwrap_or};
 ghost use Rattle.laws.specs.Text.{characters, spelled};
 ghost use Rattle.rendering_context.specs.Views.{context_view};
 ghost use Rattle.rendering_dates.specs.Dates.{cut_to};
 ghost use Rattle.rendering_dates.specs.Views.{shape_view};
 ghost use Rattle.rendering_entries.specs.Answers.{Answers};
-ghost use Rattle.rendering_leaves.specs.Values.{own_or, shape_of};
+ghost use Rattle.rendering_leaves.specs.Values.{is_year, own_or, prints_year, shape_of};
 ghost use Rattle.rendering_locale.specs.Lookup.{date_found};
 ghost use Rattle.rendering_locale.specs.Views.{localized_date_view, part_view};
 ghost use Rattle.rendering_style.specs.Views.{date_node_view};
@@ -16,7 +17,7 @@ use rendering_context::Context;
 use rendering_dates::DateShape;
 use rendering_locale::{AskedLocales, DatePart, LocalizedDate};
 use rendering_style::Date;
-use rendering_taxonomy::DateForm;
+use rendering_taxonomy::{DateForm, DatePartForm};
 use texts::no_text;
 
 /// The parts of a date node with what is changed of them, cut to so much of a date, and what stands between them.
@@ -30,7 +31,28 @@ pub(crate) fn date_shape<'a>(context: &Context<'_, 'a>, node: &'a Date) -> DateS
         changes: &node.part_changes,
         cut: node.parts,
         delimiter: delimiter_of(&node.delimiter, localized),
+        merges_ranges: node.merges_ranges,
     }
+}
+
+/// Whether a date node prints years.
+pub(crate) fn prints_year(context: &Context<'_, '_>, node: &Date) -> bool
+    ensures { (a : Answers) → result
+        ≡ prints_year (context_view a context.now) (date_node_view node.now) }
+{
+    has_year(own_or_localized(&node.own_parts, localized(context.locales, node.form)))
+}
+
+/// Whether a part is the year.
+fn has_year(parts: &[DatePart]) -> bool
+    ensures { result ≡ list_any (λ p. is_year p.form) (map part_view parts.now) }
+{
+    for part in parts {
+        if matches!(part.form, DatePartForm::Year(_)) {
+            return true;
+        }
+    }
+    false
 }
 
 /// The locale's date of a form, where there is a form.

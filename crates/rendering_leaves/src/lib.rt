@@ -11,6 +11,7 @@ mod node_setting;
 mod number;
 mod numeral;
 mod printed_answers;
+mod quoted;
 mod quotes;
 mod state;
 mod suppressed;

@@ -17,6 +17,10 @@ pub enum SpecialForm {
     FirstDateOnly,
     /// The year suffix, and locators.
     SuffixOnly,
+    /// The names of a variable alone, without the affixes of the nodes round them.
+    AuthorsAlone(NameVariable),
+    /// All but the names of a variable, and nothing stands for these.
+    WithoutNames(NameVariable),
 }
 
 /// What is handed down from node to node.

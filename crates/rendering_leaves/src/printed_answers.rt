@@ -3,14 +3,14 @@
 ghost use Rattle.std.specs.Prelude.{◌≡◌, IfOk, OnOk};
 ghost use Rattle.std.specs.Cow.{cow_value};
 ghost use Rattle.std.specs.Str.{chars};
-ghost use Rattle.laws.specs.Text.{characters};
+ghost use Rattle.laws.specs.Text.{characters, spelled};
 ghost use Rattle.literature_numbers.specs.PageViews.{pages_view};
-ghost use Rattle.literature_values.specs.TypedViews.{typed_view};
+ghost use Rattle.literature_values.specs.TypedViews.{typed_view, Text};
 ghost use Rattle.rendering_context.specs.Views.{answer_if, context_view};
 ghost use Rattle.rendering_entries.specs.Answers.{Answers};
 ghost use Rattle.rendering_entries.specs.Library.{one_chunk};
 ghost use Rattle.rendering_entries.specs.Views.{lent_number_view, lent_text_view};
-ghost use Rattle.rendering_leaves.specs.Values.{answer_pieces, ranges_in};
+ghost use Rattle.rendering_leaves.specs.Values.{answer_pieces, page_delimiter, printed_pages, ranges_in};
 ghost use Rattle.rendering_locale.specs.Lookup.{ordinals_of};
 ghost use Rattle.rendering_numbers.specs.Numbers.{numeral_or_text};
 ghost use Rattle.rendering_page.specs.Pages.{append_normal};
@@ -22,9 +22,10 @@ use crate::numeral::numeral_text;
 use literature_values::{ChunkedString, MaybeTyped, Numeric, PageRanges};
 use rendering_cases::cased_text;
 use rendering_context::{Answer, Context};
+use rendering_locale::AskedLocales;
 use rendering_page::{Manner, Page, uncased};
-use rendering_ranges::push_ranges;
-use rendering_taxonomy::{NumberForm, PageRangeFormat};
+use rendering_ranges::{delimited, lettered, push_ranges};
+use rendering_taxonomy::{NumberForm, OtherTerm, PageRangeFormat, Term, TermForm};
 use std::alloc::{AllocError, Global};
 use std::borrow::Cow;
 use texts::empty_text;
@@ -144,7 +145,7 @@ fn borrowed_numeral<'n>(numeral: &'n Cow<'_, Numeric>) -> &'n Numeric
     }
 }
 
-/// Appends pages as the style shortens them, or the text instead of them.
+/// Appends pages as the style prints them, or the text instead of them.
 fn append_pages<'a>(
     context: &Context<'_, 'a>,
     manner: Manner,
@@ -152,15 +153,69 @@ fn append_pages<'a>(
     page: &mut Page<'a>,
 ) -> Result<(), AllocError>
     ensures { OnOk result (page.new ≡ append_normal (quotes_view context.now.quotes.now)
-        (manner_view manner) (ranges_in context.now.page_ranges (typed_view pages_view pages))
-        page.old) }
+        (manner_view manner) (printed_pages context.now.locales.now context.now.page_ranges
+        context.now.is_published (typed_view pages_view pages)) page.old) }
+{
+    let text = printed_pages(context, pages)?;
+    page.push_made(context.quotes, manner, text)
+}
+
+/// Pages as the style shortens them, or the text instead of them; in a published style with the text of locales in their ranges.
+fn printed_pages(
+    context: &Context<'_, '_>,
+    pages: MaybeTyped<PageRanges>,
+) -> Result<String, AllocError>
+    ensures { IfOk result (λ s. characters s ≡ printed_pages context.now.locales.now
+        context.now.page_ranges context.now.is_published (typed_view pages_view pages)) }
+{
+    let text = ranges_in(context, pages)?;
+    if context.is_published {
+        delimited(context.alloc, page_delimiter(context.locales), text)
+    } else {
+        Ok(text)
+    }
+}
+
+/// Pages as the style shortens them, or the text instead of them.
+fn ranges_in(context: &Context<'_, '_>, pages: MaybeTyped<PageRanges>) -> Result<String, AllocError>
+    ensures { IfOk result (λ s. characters s ≡ ranges_in context.now.page_ranges
+        context.now.is_published (typed_view pages_view pages)) }
 {
     match pages {
-        MaybeTyped::Typed(pages) => {
-            let text = pages_in(context.alloc, &pages, context.page_ranges)?;
-            page.push_made(context.quotes, manner, text)
+        MaybeTyped::Typed(pages) => pages_in(context.alloc, &pages, context.page_ranges),
+        MaybeTyped::String(text) => {
+            text_in(
+                context.alloc,
+                context.page_ranges,
+                context.is_published,
+                text,
+            )
         }
-        MaybeTyped::String(text) => page.push_made(context.quotes, manner, text),
+    }
+}
+
+/// The text that locales have for ranges of pages.
+fn page_delimiter<'a>(locales: &AskedLocales<'a>) -> &'a str
+    ensures { spelled result ≡ page_delimiter locales.now }
+{
+    let term = Term::Other(OtherTerm::PageRangeDelimiter);
+    locales.term_text(term, TermForm::Long, false)
+}
+
+/// A text instead of pages, in a published style in the format.
+fn text_in(
+    alloc: Global,
+    format: Option<PageRangeFormat>,
+    is_published: bool,
+    text: String,
+) -> Result<String, AllocError>
+    ensures { IfOk result (λ s. characters s ≡ ranges_in format is_published
+        (Text (characters text))) }
+{
+    if is_published {
+        lettered(alloc, format, text.as_str())
+    } else {
+        Ok(text)
     }
 }
 

@@ -4,7 +4,8 @@ ghost use Rattle.std.specs.Prelude.{◌≡◌, OnOk};
 ghost use Rattle.rendering_context.specs.Views.{context_view};
 ghost use Rattle.rendering_entries.specs.Answers.{Answers};
 ghost use Rattle.rendering_leaves.specs.NodeSettings.{append};
-ghost use Rattle.rendering_leaves.specs.Values.{close_term, open_term, quote_after, quote_before};
+ghost use Rattle.rendering_leaves.specs.Quoted.{close_term, open_term};
+ghost use Rattle.rendering_leaves.specs.Values.{quote_after, quote_before};
 ghost use Rattle.rendering_page.specs.Pieces.{append_pieces};
 ghost use Rattle.rendering_page.specs.Views.{quotes_view, manner_view};
 
@@ -87,7 +88,7 @@ pub(crate) fn append_after<'a>(
 }
 
 /// The open quote, which is another one inside quotes.
-fn open_term(inside: bool) -> OtherTerm
+pub(crate) fn open_term(inside: bool) -> OtherTerm
     ensures { result ≡ open_term inside }
 {
     if inside {
@@ -98,7 +99,7 @@ fn open_term(inside: bool) -> OtherTerm
 }
 
 /// The close quote, which is another one inside quotes.
-fn close_term(inside: bool) -> OtherTerm
+pub(crate) fn close_term(inside: bool) -> OtherTerm
     ensures { result ≡ close_term inside }
 {
     if inside {

@@ -1,9 +1,9 @@
 //! What a call has printed so far.
 
 ghost use Rattle.std.specs.Prelude.{◌≡◌, IfOk, OnOk};
-ghost use Rattle.rendering_leaves.specs.NodeSettings.{begun, noted, with_variable};
+ghost use Rattle.rendering_leaves.specs.NodeSettings.{begun, noted, standing, with_printed};
 
-use crate::suppressed::add_variable;
+use crate::suppressed::{add_variable, set_variables};
 use rendering_page::Page;
 use rendering_people::NameDisambiguationProperties;
 use rendering_taxonomy::Variable;
@@ -26,6 +26,10 @@ pub struct State<'a> {
     pub used_label: bool,
     /// Whether the number of the entry was printed.
     pub used_number: bool,
+    /// Whether the style is a published one.
+    pub is_published: bool,
+    /// The variables that substitutes printed in a published style, each once.
+    pub printed: Vec<Variable>,
 }
 
 impl<'a> Model for State<'a> {
@@ -33,7 +37,7 @@ impl<'a> Model for State<'a> {
 
     ghost Value = { settings.State };
 
-    ghost view = { λ s. record { page = s.page; has_date = s.has_date; suppressed = s.suppressed.items; met_disambiguate = s.met_disambiguate; names = s.names; used = record { label = s.used_label; number = s.used_number } } };
+    ghost view = { λ s. record { page = s.page; has_date = s.has_date; suppressed = s.suppressed.items; met_disambiguate = s.met_disambiguate; names = s.names; used = record { label = s.used_label; number = s.used_number }; is_published = s.is_published; printed = s.printed.items } };
 }
 
 impl<'a> State<'a> {
@@ -49,6 +53,8 @@ impl<'a> State<'a> {
             names: None,
             used_label: false,
             used_number: false,
+            is_published: false,
+            printed: Vec::new(alloc),
         }
     }
 
@@ -59,15 +65,32 @@ impl<'a> State<'a> {
         self.met_disambiguate = self.met_disambiguate || met;
     }
 
-    /// Adds a variable to those that are not printed again.
+    /// Remembers that a substitute printed a variable, which is not printed again: at once, or in a published style once the
+    /// substitute stands.
     ///
     /// # Errors
     /// Out of memory.
     pub fn suppress(&mut self, variable: Variable) -> Result<(), AllocError>
-        ensures { OnOk result (self.new
-            ≡ record self.old { suppressed = with_variable self.old.suppressed variable }) }
+        ensures { OnOk result (self.new ≡ with_printed variable self.old) }
     {
-        add_variable(&mut self.suppressed, variable)
+        if self.is_published {
+            add_variable(&mut self.printed, variable)
+        } else {
+            add_variable(&mut self.suppressed, variable)
+        }
+    }
+
+    /// Remembers that a substitute stands: what was printed in it is not printed again.
+    ///
+    /// # Errors
+    /// Out of memory.
+    pub fn stand(&mut self) -> Result<(), AllocError>
+        ensures { OnOk result (self.new ≡ standing self.old) }
+    {
+        if !self.is_published {
+            return Ok(());
+        }
+        set_variables(&mut self.suppressed, &self.printed)
     }
 
     /// A copy. Texts that were made are copied, borrowed ones are not.
@@ -85,6 +108,8 @@ impl<'a> State<'a> {
             names: copied_names(&self.names)?,
             used_label: self.used_label,
             used_number: self.used_number,
+            is_published: self.is_published,
+            printed: self.printed.clone()?,
         })
     }
 }

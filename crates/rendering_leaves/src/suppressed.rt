@@ -21,6 +21,17 @@ pub(crate) fn add_variable(
     Ok(())
 }
 
+/// Makes variables the same as others.
+pub(crate) fn set_variables(
+    variables: &mut Vec<Variable>,
+    others: &Vec<Variable>,
+) -> Result<(), AllocError>
+    ensures { OnOk result (variables.new.items ≡ others.now.items) }
+{
+    *variables = others.clone()?;
+    Ok(())
+}
+
 fn is_among(variables: &[Variable], variable: Variable) -> bool
     ensures { result ≡ is_among variables.now variable }
 {

@@ -15,6 +15,7 @@ ghost use Rattle.rendering_style.specs.Views.{text_look_view};
 use crate::entry_identifiers::{append_identified, append_label_suffix};
 use crate::node_frame::{frame_of, text_manner};
 use crate::node_setting::NodeSetting;
+use crate::quoted::{are_inner, requoted};
 use crate::quotes::{append_after, append_before};
 use crate::state::State;
 use crate::suppression::after_variable;
@@ -43,8 +44,10 @@ pub fn push_variable<'a, E: EntryLike>(
         ≡ append_leaf (context_view (E.answers entry.now) context.now) (setting_view setting.now)
         (nodes.text (nodes.of_variable variable form) (text_look_view look.now)) state.old) }
 {
-    let answer = context.answer(entry, &state.suppressed, form, variable)?;
-    append_variable(context, setting, variable, look, answer, &mut state.page)?;
+    let answer = context.text_answer(entry, &state.suppressed, form, variable)?;
+    let inner = are_inner(look.quotes, setting.inside_quotes);
+    let printed = requoted(context, inner, answer)?;
+    append_variable(context, setting, variable, look, printed, &mut state.page)?;
     after_variable(context, setting, variable, state)
 }
 

@@ -3,6 +3,7 @@ pub mod PersonsJoined
 pub mod NameWords
 pub mod NamesCases
 pub mod PiecesAppended
+pub mod RolesSteps
 pub mod IndexedSteps
 pub mod CountsOwn
 pub mod OwnSteps

@@ -1,7 +1,7 @@
 -- The people of several variables, one after the other.
-use Rattle.std.proofs.Common.{arith, ◌≡◌, ℕ, suc, ◌+◌, ◌<◌, ◌≤◌, min, List, [], ◌∷◌, ◌++◌, length, take, drop, zip, get_or, refl, sym, ap, ◌∙◌}
+use Rattle.std.proofs.Common.{arith, ◌≡◌, ℕ, zero, suc, ◌+◌, ◌<◌, ◌≤◌, min, List, [], ◌∷◌, ◌++◌, length, take, drop, zip, get_or, refl, sym, ap, ◌∙◌}
 use Rattle.std.specs.List.{enumerate_from, flat_map}
-use Rattle.std.proofs.lemmas.List.{length-map, take_more, take_all, drop_more, drop-drop, get_or-drop, get_or-map, flat_map_more}
+use Rattle.std.proofs.lemmas.List.{length-map, length-take-le, take_more, take_all, drop_more, drop-drop, get_or-drop, get_or-map, flat_map_more}
 use Rattle.std.proofs.lemmas.List.FromFn.{length-enumerate_from, get_or-enumerate_from}
 use Rattle.std.proofs.lemmas.Slice.Zip.{length-zip, get_or-zip}
 use Rattle.rendering_page.specs.Pages.{Page, Quotes}
@@ -9,7 +9,7 @@ use Rattle.rendering_page.specs.Pieces.{Piece, append_pieces}
 use Rattle.rendering_style.specs.Nodes.{NamesNode}
 use Rattle.rendering_people.specs.Counts.{cut}
 use Rattle.rendering_people.proofs.CountsWhole.{of_count}
-use Rattle.rendering_names.specs.Names.{NameStyle, before_people, indexed_variable, variable_pieces}
+use Rattle.rendering_names.specs.Names.{NameStyle, indexed_variable, next_variable}
 use Rattle.rendering_people.specs.Properties.{VariableProperties}
 use Rattle.rendering_people.specs.Views.{all_lent_answered_view, lent_answered_view}
 use Rattle.rendering_people.specs.declared.people.Answered.{Answered}
@@ -66,23 +66,30 @@ run_more quotes g xs ys i x y start old new low high is_x is_y before after =
     (flat_map_more g [] (take i all) (i, (x, y))
     ∙ ap (flat_map g) (ap (λ q. take i all ++ q ∷ []) (sym (run_at xs ys i x y low high is_x is_y)) ∙ sym (take_more all i (0, (x, y)) there)))
 
+-- people before an index
+front_view : (n : ℕ) (people : List Answered) → all_lent_answered_view (take n people) ≡ take n (all_lent_answered_view people)
+front_view zero people = refl
+front_view (suc n) [] = refl
+front_view (suc n) (a ∷ people) = ap (λ xs. lent_answered_view a ∷ xs) (front_view n people)
+
 -- the people of one more variable are appended
-pub people-more : (quotes : Quotes) (s : NameStyle) (h : NamesNode) (cs : List PeopleCount) (fs rest : Forms) (people : List Answered) (i : ℕ) (d : PeopleCount) (a : Answered) (own : Forms)
-    (start old before new : Page)
-    → i < length cs → i < length people → a ≡ get_or people i a → own ≡ take (get_or cs i d).people rest → drop i (cut cs fs) ≡ cut (drop i cs) rest
-    → old ≡ append_pieces quotes (flat_map (indexed_variable s h) (take i (enumerate_from 0 (zip (cut cs fs) (all_lent_answered_view people))))) start
-    → before ≡ append_pieces quotes (before_people s.manner s.options h i) old
-    → new ≡ append_pieces quotes (variable_pieces s h (of_count (get_or cs i d) own, lent_answered_view a)) before
-    → new ≡ append_pieces quotes (flat_map (indexed_variable s h) (take (i + 1) (enumerate_from 0 (zip (cut cs fs) (all_lent_answered_view people))))) start
-people-more quotes s h cs fs rest people i d a own start old before new low high is_a is_own same x y z =
+pub people-more : (quotes : Quotes) (s : NameStyle) (h : NamesNode) (cs : List PeopleCount) (fs rest : Forms) (people before : List Answered) (i : ℕ) (d : PeopleCount) (a : Answered) (own : Forms)
+    (start old new : Page)
+    → i < length cs → i < length people → a ≡ get_or people i a → own ≡ take (get_or cs i d).people rest → drop i (cut cs fs) ≡ cut (drop i cs) rest → before ≡ take i people
+    → old ≡ append_pieces quotes (flat_map (indexed_variable s h (all_lent_answered_view people)) (take i (enumerate_from 0 (zip (cut cs fs) (all_lent_answered_view people))))) start
+    → new ≡ append_pieces quotes (next_variable s h (all_lent_answered_view before) (length before) (of_count (get_or cs i d) own, lent_answered_view a)) old
+    → new ≡ append_pieces quotes (flat_map (indexed_variable s h (all_lent_answered_view people)) (take (i + 1) (enumerate_from 0 (zip (cut cs fs) (all_lent_answered_view people))))) start
+people-more quotes s h cs fs rest people before i d a own start old new low high is_a is_own same is_before x y =
     let q = of_count (get_or cs i d) own in
     let b = lent_answered_view a in
     let low_cut : i < length (cut cs fs) = omega (arith, length-cut cs fs) in
     let high_view : i < length (all_lent_answered_view people) = omega (arith, length-map people lent_answered_view) in
     let is_q : get_or (cut cs fs) i q ≡ q = cut_at cs fs rest i d q low same ∙ ap (of_count (get_or cs i d)) (sym is_own) in
     let is_b : get_or (all_lent_answered_view people) i b ≡ b = get_or-map lent_answered_view people i a b high ∙ ap lent_answered_view (sym is_a) in
-    run_more quotes (indexed_variable s h) (cut cs fs) (all_lent_answered_view people) i q b start old new low_cut high_view is_q is_b x
-    (append-both quotes (before_people s.manner s.options h i) (variable_pieces s h (q, b)) old before new y z)
+    let front : all_lent_answered_view before ≡ take i (all_lent_answered_view people) = ap all_lent_answered_view is_before ∙ front_view i people in
+    let many : length before ≡ i = ap length is_before ∙ length-take-le i people (omega (arith, high)) in
+    run_more quotes (indexed_variable s h (all_lent_answered_view people)) (cut cs fs) (all_lent_answered_view people) i q b start old new low_cut high_view is_q is_b x
+    (y ∙ (λ j. append_pieces quotes (next_variable s h (front j) (many j) (q, b)) old))
 
 -- and what remains are the others
 pub others-remain : (cs : List PeopleCount) (fs rest others : Forms) (i : ℕ) (d : PeopleCount) → i < length cs → others ≡ drop (get_or cs i d).people rest → drop i (cut cs fs) ≡ cut (drop i cs) rest

@@ -7,7 +7,11 @@ use Rattle.rendering_names.specs.Names.{shown_of}
 
 -- how many people a variable has, and how many are shown by the options
 abbrev pub own_count : NameOptions → Bool → Answered → PeopleCount
-own_count o is_first a = record { variable = a.1; people = length a.0; shown = shown_of o is_first (length a.0) }
+own_count o is_first a = record {
+  variable = a.1;
+  people = length a.0;
+  shown = shown_of o is_first (length a.0);
+}
 
 -- how many people answer
 abbrev pub people_count : List Answered → ℕ

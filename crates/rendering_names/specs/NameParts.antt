@@ -94,7 +94,8 @@ demoted_words l separator given p =
 
 -- a name with its family name first; the particle goes after the given name where it is demoted
 abbrev pub turned_words : Bool → NameLook → List ℕ → List ℕ → Named → List Word
-turned_words false l separator given p = inverted_words l separator given (short_text p) (suffix_of p)
+turned_words false l separator given p =
+    inverted_words l separator given (short_text p) (suffix_of p)
 turned_words true l separator given p = demoted_words l separator given p
 
 -- a name with its given name, inverted or not
@@ -106,7 +107,8 @@ long_words l o true given p =
 -- a name in a form
 abbrev pub person_words : NameLook → NameOptions → Bool → DisambiguatedNameForm → Named → List Word
 person_words l o is_inverted forms.LongFull p = long_words l o is_inverted (given_of p) p
-person_words l o is_inverted forms.LongInitialized p = long_words l o is_inverted (initials_by o p) p
+person_words l o is_inverted forms.LongInitialized p =
+    long_words l o is_inverted (initials_by o p) p
 person_words l o is_inverted f p = part_word l.family [] (short_text p) ∷ []
 
 -- whether something is specified for a part of names
@@ -114,7 +116,8 @@ abbrev pub has_parts : NameLook → Bool
 has_parts l = is_some l.given || is_some l.family
 
 -- a name in words, where something is specified for its parts, or else as one text
-abbrev pub person_pieces : Manner → NameLook → NameOptions → Bool → DisambiguatedNameForm → Named → List Piece
+abbrev pub person_pieces : Manner → NameLook → NameOptions → Bool → DisambiguatedNameForm → Named →
+    List Piece
 person_pieces m l o is_inverted f p =
     if has_parts l
     then words_pieces m false (person_words l o is_inverted f p)

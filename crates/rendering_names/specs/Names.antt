@@ -17,6 +17,7 @@ use Rattle.rendering_people.specs.Properties.{VariableProperties, Properties, al
 use Rattle.rendering_names.specs.Around.{NamesAround}
 use Rattle.rendering_names.specs.NameParts.{person_pieces}
 use Rattle.rendering_names.specs.Persons.{comma_and_space}
+use Rattle.rendering_names.specs.Roles.{is_left_out, label_term, merging}
 use Rattle.rendering_taxonomy.specs.declared.name.NameAnd.{NameAnd}
 use Rattle.rendering_taxonomy.specs.declared.name.NameAnd.TheVariants as ands
 use Rattle.rendering_taxonomy.specs.declared.name.DelimiterBehavior.{DelimiterBehavior}
@@ -33,6 +34,7 @@ use Rattle.rendering_taxonomy.specs.declared.number.LabelPluralize.{LabelPlurali
 use Rattle.rendering_taxonomy.specs.declared.number.LabelPluralize.TheVariants as plurals
 use Rattle.rendering_taxonomy.specs.declared.term.OtherTerm.{OtherTerm}
 use Rattle.rendering_taxonomy.specs.declared.term.OtherTerm.TheVariants as others
+use Rattle.rendering_taxonomy.specs.declared.term.Term.{Term}
 use Rattle.rendering_taxonomy.specs.declared.term.Term.TheVariants as terms
 use Rattle.rendering_taxonomy.specs.declared.term.TermForm.TheVariants as term_forms
 use Rattle.rendering_taxonomy.specs.declared.text_case.TextCase.{TextCase}
@@ -60,11 +62,17 @@ shown_by least first n = n
 -- in subsequent cites their own options count, or else those of the first
 abbrev pub shown_of : NameOptions → Bool → ℕ → ℕ
 shown_of o true n = shown_by o.et_al_min o.et_al_use_first n
-shown_of o false n = shown_by (option_or o.et_al_subsequent_min o.et_al_min) (option_or o.et_al_subsequent_use_first o.et_al_use_first) n
+shown_of o false n =
+    shown_by (option_or o.et_al_subsequent_min o.et_al_min)
+    (option_or o.et_al_subsequent_use_first o.et_al_use_first) n
 
 -- what is printed of people by the options
 abbrev pub own_properties : NameOptions → Bool → Answered → VariableProperties
-own_properties o is_first a = record { variable = a.1; forms = replicate (length a.0) (base_form o); shown = shown_of o is_first (length a.0) }
+own_properties o is_first a = record {
+  variable = a.1;
+  forms = replicate (length a.0) (base_form o);
+  shown = shown_of o is_first (length a.0);
+}
 
 -- what is printed of the people of each variable by the options
 abbrev pub properties_by : NameOptions → Bool → List Answered → Properties
@@ -97,7 +105,9 @@ delimits_last o n behaviors.AfterInvertedName = inverts o.name_as_sort_order (n 
 abbrev pub before_last_by : Manner → NameOptions → ℕ → List ℕ → List Piece
 before_last_by m o n [] = normal m (delimiter_by o) ∷ []
 before_last_by m o n (c ∷ cs) =
-    normal m (if delimits_last o n (unwrap_or o.delimiter_precedes_last behaviors.Contextual) then delimiter_by o else space ∷ [])
+    let is_delimited =
+    delimits_last o n (unwrap_or o.delimiter_precedes_last behaviors.Contextual) in
+    normal m (if is_delimited then delimiter_by o else space ∷ [])
     ∷ normal m (c ∷ cs) ∷ normal m (space ∷ []) ∷ []
 
 -- what stands before the name at an index among n: nothing before the first; before the last, if it is not the first, the word; the
@@ -105,7 +115,9 @@ before_last_by m o n (c ∷ cs) =
 abbrev pub before_name : List Locale → Manner → NameOptions → ℕ → ℕ → List Piece
 before_name ls m o n i =
     if i == 0 then []
-    else (if i + 1 == n then before_last_by m o n (and_text ls o.and_term) else normal m (delimiter_by o) ∷ [])
+    else (if i + 1 == n
+    then before_last_by m o n (and_text ls o.and_term)
+    else normal m (delimiter_by o) ∷ [])
 
 -- How names are appended: the locales, the manner of the node, the look of single names, and the options.
 pub record NameStyle : Type 0 where
@@ -119,10 +131,24 @@ pub record NameStyle : Type 0 where
 abbrev pub name_manner : NameStyle → Manner
 name_manner s = record s.manner { formatting = changed s.look.formatting s.manner.formatting }
 
+-- how the term for those left out is appended
+abbrev pub et_al_manner : NameStyle → Manner
+et_al_manner s = record s.manner { formatting = changed s.et_al.formatting s.manner.formatting }
+
+-- the affixes of a single name
+abbrev pub name_frame : NameStyle → Frame
+name_frame s = record {
+  display = None;
+  meta = None;
+  manner = s.manner;
+  prefix = s.look.prefix;
+  suffix = s.look.suffix;
+}
+
 -- a single name, in its own look and its affixes in that of the node, as the person at an index
 abbrev pub name_pieces : NameStyle → NameVariable → ℕ → DisambiguatedNameForm → Named → List Piece
 name_pieces s v i f p =
-    framed (record { display = None; meta = Some (Name v i); manner = s.manner; prefix = s.look.prefix; suffix = s.look.suffix })
+    framed (record (name_frame s) { meta = Some (Name v i) })
     (person_pieces (name_manner s) s.look s.options (inverts s.options.name_as_sort_order i) f p)
 
 -- a person of a variable with a form, under its index
@@ -135,7 +161,8 @@ indexed_pieces s v p = name_pieces s v p.0 (p.1).0 (p.1).1
 
 -- people of a variable that has n, each after what stands before it
 abbrev pub shown_pieces : NameStyle → NameVariable → ℕ → List IndexedPerson → List Piece
-shown_pieces s v n ps = flat_map (λ p. before_name s.locales s.manner s.options n p.0 ++ indexed_pieces s v p) ps
+shown_pieces s v n ps =
+    flat_map (λ p. before_name s.locales s.manner s.options n p.0 ++ indexed_pieces s v p) ps
 
 -- the last of n people
 abbrev pub last_pieces : NameStyle → NameVariable → ℕ → List IndexedPerson → List Piece
@@ -151,19 +178,23 @@ abbrev pub delimits_et_al : NameOptions → ℕ → DelimiterBehavior → Bool
 delimits_et_al o shown behaviors.Contextual = nat_le 2 shown
 delimits_et_al o shown behaviors.Always = true
 delimits_et_al o shown behaviors.Never = false
-delimits_et_al o shown behaviors.AfterInvertedName = nat_lt 0 shown && inverts o.name_as_sort_order (shown - 1)
+delimits_et_al o shown behaviors.AfterInvertedName =
+    nat_lt 0 shown && inverts o.name_as_sort_order (shown - 1)
 
 -- The term for those left out, after the delimiter or a space. Without a term there is neither.
 abbrev pub et_al_by : NameStyle → ℕ → List ℕ → List Piece
 et_al_by s shown [] = []
 et_al_by s shown (c ∷ cs) =
-    normal s.manner
-    (if delimits_et_al s.options shown (unwrap_or s.options.delimiter_precedes_et_al behaviors.Contextual) then delimiter_by s.options else space ∷ [])
-    ∷ normal (record s.manner { formatting = changed s.et_al.formatting s.manner.formatting }) (c ∷ cs) ∷ []
+    let behavior = unwrap_or s.options.delimiter_precedes_et_al behaviors.Contextual in
+    let is_delimited = delimits_et_al s.options shown behavior in
+    normal s.manner (if is_delimited then delimiter_by s.options else space ∷ [])
+    ∷ normal (et_al_manner s) (c ∷ cs) ∷ []
 
 -- what stands for those left out
 abbrev pub et_al_pieces : NameStyle → ℕ → List Piece
-et_al_pieces s shown = et_al_by s shown (term_text s.locales (terms.Other (et_al_term s.et_al.name)) term_forms.Long false)
+et_al_pieces s shown =
+    et_al_by s shown
+    (term_text s.locales (terms.Other (et_al_term s.et_al.name)) term_forms.Long false)
 
 -- the text before the last of many names, where that is shown
 abbrev pub ellipsis : List ℕ
@@ -171,18 +202,23 @@ ellipsis = codes "…"
 
 -- a name after the delimiter, an ellipsis and a space
 abbrev pub after_ellipsis : NameStyle → List Piece → List Piece
-after_ellipsis s ps = normal s.manner (delimiter_by s.options) ∷ normal s.manner ellipsis ∷ normal s.manner (space ∷ []) ∷ ps
+after_ellipsis s ps =
+    normal s.manner (delimiter_by s.options) ∷ normal s.manner ellipsis
+    ∷ normal s.manner (space ∷ []) ∷ ps
 
 -- After the shown names, where there are more: the last one, after an ellipsis, where it is wanted and two or more are left out;
 -- else the term for them.
 abbrev pub rest_pieces : NameStyle → NameVariable → ℕ → ℕ → List IndexedPerson → List Piece
 rest_pieces s v n shown ps =
     if nat_le n shown then []
-    else (if unwrap_or s.options.et_al_use_last false && nat_le 2 (n - shown) then after_ellipsis s (last_pieces s v n ps) else et_al_pieces s shown)
+    else (if unwrap_or s.options.et_al_use_last false && nat_le 2 (n - shown)
+    then after_ellipsis s (last_pieces s v n ps)
+    else et_al_pieces s shown)
 
 -- the first of the people, so many, and what stands for the rest
 abbrev pub list_pieces : NameStyle → NameVariable → ℕ → List IndexedPerson → List Piece
-list_pieces s v shown ps = shown_pieces s v (length ps) (take shown ps) ++ rest_pieces s v (length ps) shown ps
+list_pieces s v shown ps =
+    shown_pieces s v (length ps) (take shown ps) ++ rest_pieces s v (length ps) shown ps
 
 -- whether a label stands in the plural, where its value does or not
 abbrev pub pluralizes : LabelPluralize → Bool → Bool
@@ -197,15 +233,25 @@ label_manner m l = with_case l.text_case (record m {
   strips_periods = m.strips_periods || l.strips_periods;
 })
 
+-- the affixes of a label
+abbrev pub label_frame : Manner → LabelLook → Frame
+label_frame m l = record {
+  display = None;
+  meta = None;
+  manner = m;
+  prefix = l.look.prefix;
+  suffix = l.look.suffix;
+}
+
 -- a label by its term, in its affixes
 abbrev pub label_text_pieces : Manner → LabelLook → List ℕ → List Piece
-label_text_pieces m l text =
-    framed (record { display = None; meta = None; manner = m; prefix = l.look.prefix; suffix = l.look.suffix }) (normal (label_manner m l) text ∷ [])
+label_text_pieces m l text = framed (label_frame m l) (normal (label_manner m l) text ∷ [])
 
--- the label of a name variable, by how many people answer it
-abbrev pub label_pieces : List Locale → Manner → NameVariable → ℕ → Option LabelLook → List Piece
-label_pieces ls m v n None = []
-label_pieces ls m v n (Some l) = label_text_pieces m l (term_text ls (terms.Variable (variables.Name v)) l.form (pluralizes l.plural (nat_lt 1 n)))
+-- the label of so many people by its term
+abbrev pub label_pieces : List Locale → Manner → Term → ℕ → Option LabelLook → List Piece
+label_pieces ls m t n None = []
+label_pieces ls m t n (Some l) =
+    label_text_pieces m l (term_text ls t l.form (pluralizes l.plural (nat_lt 1 n)))
 
 -- a label before or after what it belongs to
 abbrev pub beside : Bool → List Piece → List Piece → List Piece
@@ -214,18 +260,32 @@ beside false label ps = ps ++ label
 
 -- an element that says only what it stands for
 abbrev pub variable_frame : Manner → NameVariable → Frame
-variable_frame m v = record { display = None; meta = Some (NameVariableOf v); manner = m; prefix = []; suffix = [] }
+variable_frame m v = record {
+  display = None;
+  meta = Some (NameVariableOf v);
+  manner = m;
+  prefix = [];
+  suffix = [];
+}
 
 -- the people of a variable, by what is to be printed of them
 abbrev pub variable_pieces : NameStyle → NamesNode → VariableProperties × Answered → List Piece
 variable_pieces s h (p, a) =
     framed (variable_frame s.manner a.1)
-    (beside h.label_is_first (label_pieces s.locales s.manner a.1 (length a.0) h.label)
+    (beside h.label_is_first
+    (label_pieces s.locales s.manner (label_term h a.1) (length a.0) h.label)
     (list_pieces s a.1 p.shown (enumerate_from 0 (zip p.forms a.0))))
 
 -- the look of single names where nothing is specified for them
 abbrev pub no_look : NameLook
-no_look = record { options = open_options; formatting = unchanged; prefix = []; suffix = []; given = None; family = None }
+no_look = record {
+  options = open_options;
+  formatting = unchanged;
+  prefix = [];
+  suffix = [];
+  given = None;
+  family = None;
+}
 
 -- the term for others where nothing is specified for it
 abbrev pub plain_et_al : EtAl
@@ -262,20 +322,36 @@ people_delimiter o h = unwrap_or (option_or h.delimiter o.names_delimiter) comma
 abbrev pub before_people : Manner → NameOptions → NamesNode → ℕ → List Piece
 before_people m o h i = if i == 0 then [] else normal m (people_delimiter o h) ∷ []
 
--- the people of the variable at an index, after what stands before them
-abbrev pub indexed_variable : NameStyle → NamesNode → ℕ × (VariableProperties × Answered) → List Piece
-indexed_variable s h p = before_people s.manner s.options h p.0 ++ variable_pieces s h p.1
+-- the people of the variable at an index, after what stands before them, unless people before it
+-- are printed who are the same in their other role
+abbrev pub next_variable : NameStyle → NamesNode → List Answered → ℕ →
+    VariableProperties × Answered → List Piece
+next_variable s h before i p =
+    if is_left_out h before (p.1).1
+    then []
+    else before_people s.manner s.options h i ++ variable_pieces s h p
+
+-- the same, among all
+abbrev pub indexed_variable : NameStyle → NamesNode → List Answered →
+    ℕ × (VariableProperties × Answered) → List Piece
+indexed_variable s h people p = next_variable s h (take p.0 people) p.0 p.1
 
 -- the people of each variable, or only how many are shown
 abbrev pub people_pieces : NameStyle → NamesNode → Properties → List Answered → List Piece
 people_pieces s h ps people =
     if is_count s.options.form
     then normal s.manner (decimal (all_shown ps)) ∷ []
-    else flat_map (indexed_variable s h) (enumerate_from 0 (zip ps people))
+    else flat_map (indexed_variable s h people) (enumerate_from 0 (zip ps people))
 
 -- the element of a names node
 abbrev pub names_frame : Manner → NamesNode → List Answered → Frame
-names_frame m h people = record { display = h.look.display; meta = Some (Names people); manner = m; prefix = h.look.prefix; suffix = h.look.suffix }
+names_frame m h people = record {
+  display = h.look.display;
+  meta = Some (Names people);
+  manner = m;
+  prefix = h.look.prefix;
+  suffix = h.look.suffix;
+}
 
 -- what a names node hands down, to its people or to their substitute
 abbrev pub names_manner : Manner → NamesNode → Manner
@@ -292,8 +368,15 @@ abbrev pub people_manner : Manner → NamesNode → Manner
 people_manner m h = record (names_manner m h) { text_case = every_letter m.text_case }
 
 -- a names node with its people, by what is to be printed of them
-abbrev pub names_pieces : List Locale → Manner → NamesNode → NamesAround → Properties → List Answered → List Piece
-names_pieces ls m h around ps people = framed (names_frame m h people) (people_pieces (style_of ls (people_manner m h) h around) h ps people)
+abbrev pub names_pieces : List Locale → Manner → NamesNode → NamesAround → Properties →
+    List Answered → List Piece
+names_pieces ls m h around ps people =
+    framed (names_frame m h people)
+    (people_pieces (style_of ls (people_manner m h) h around) (merging h people) ps people)
+
+-- a names node without its affixes
+abbrev pub without_affixes : NamesNode → NamesNode
+without_affixes h = record h { look = record h.look { prefix = []; suffix = [] } }
 
 -- What a names node says of names where it is a substitute for another: without a name and without a term for others it takes those of that
 -- node, and its label with the label's position, if it has none itself.

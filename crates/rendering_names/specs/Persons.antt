@@ -69,12 +69,15 @@ straight given p = spaced (spaced (spaced given (prefix_of p)) p.name) (suffix_o
 
 -- particle and family name, given name, suffix, with the separator between; the particle goes after the given name where it is demoted
 abbrev pub inverted_by : Bool → List ℕ → List ℕ → Named → List ℕ
-inverted_by false separator given p = joined separator (joined separator (short_text p) given) (suffix_of p)
-inverted_by true separator given p = joined separator (joined separator p.name (spaced given (prefix_of p))) (suffix_of p)
+inverted_by false separator given p =
+    joined separator (joined separator (short_text p) given) (suffix_of p)
+inverted_by true separator given p =
+    joined separator (joined separator p.name (spaced given (prefix_of p))) (suffix_of p)
 
 -- a name with its family name first, as the options say
 abbrev pub inverted : NameOptions → List ℕ → Named → List ℕ
-inverted o given p = inverted_by (unwrap_or o.demote false) (unwrap_or o.sort_separator comma_and_space) given p
+inverted o given p =
+    inverted_by (unwrap_or o.demote false) (unwrap_or o.sort_separator comma_and_space) given p
 
 -- a name with its given name, inverted or not
 abbrev pub long_text : NameOptions → Bool → List ℕ → Named → List ℕ

@@ -6,7 +6,10 @@ use Rattle.std.specs.Option.{option_map, unwrap_or}
 use Rattle.std.specs.declared.borrow.Cow.{Cow}
 use Rattle.laws.specs.Text.{spelled}
 use Rattle.literature_values.specs.declared.person.Person.{Person}
-use Rattle.rendering_people.specs.Views.{lent_people_view}
+use Rattle.rendering_people.specs.Properties.{VariableProperties}
+use Rattle.rendering_people.specs.Views.{lent_answered_view, lent_people_view}
+use Rattle.rendering_people.specs.declared.people.Answered.{Answered}
+use Rattle.rendering_people.specs.declared.properties.PeopleCount.{PeopleCount}
 use Rattle.rendering_page.specs.Pages.{Page}
 use Rattle.rendering_page.specs.Pieces.{Piece, append_pieces}
 use Rattle.rendering_page.specs.Views.{quotes_view, manner_view}
@@ -27,6 +30,7 @@ use Rattle.rendering_names.specs.declared.options.ResolvedNameOptions.{ResolvedN
 use Rattle.rendering_names.specs.declared.parts.NamesParts.{NamesParts}
 use Rattle.rendering_names.specs.declared.style.NameStyle.{NameStyle}
 use Rattle.rendering_taxonomy.specs.declared.name.DisambiguatedNameForm.{DisambiguatedNameForm}
+use Rattle.rendering_tree.specs.Metas as metas
 
 -- what is specified for names
 abbrev pub resolved_options_view : ResolvedNameOptions → NameOptions
@@ -99,8 +103,14 @@ names_parts_view n = record {
   label_is_first = n.label_is_first;
   merges_editor_translator = n.merges_editor_translator;
   delimiter = option_map spelled n.delimiter;
-  look = look_view n.look.now;
+  look = record (look_view n.look.now) { prefix = spelled n.prefix; suffix = spelled n.suffix };
 }
+
+-- the people of a variable, with what is to be printed of them
+abbrev pub counted_view : PeopleCount → List DisambiguatedNameForm → Answered →
+    VariableProperties × metas.Answered
+counted_view c fs a =
+    (record { variable = c.variable; forms = fs; shown = c.shown }, lent_answered_view a)
 
 -- people with their forms under their indices
 abbrev pub indexed : List DisambiguatedNameForm → List (Cow Person) → List IndexedPerson

@@ -1,9 +1,9 @@
 //! Labels.
 
-ghost use Rattle.std.specs.Prelude.{◌≡◌, OnOk, None};
+ghost use Rattle.std.specs.Prelude.{◌≡◌, OnOk};
 ghost use Rattle.std.specs.Option.{option_map};
 ghost use Rattle.laws.specs.Text.{spelled};
-ghost use Rattle.rendering_names.specs.Names.{label_manner, label_pieces, label_text_pieces, pluralizes};
+ghost use Rattle.rendering_names.specs.Names.{label_frame, label_manner, label_pieces, label_text_pieces, pluralizes};
 ghost use Rattle.rendering_names.specs.Views.{append_here, name_style_view};
 ghost use Rattle.rendering_page.specs.Views.{manner_view, frame_view};
 ghost use Rattle.rendering_style.specs.Views.{label_look_view};
@@ -11,7 +11,7 @@ ghost use Rattle.rendering_style.specs.Views.{label_look_view};
 use crate::style::{NameStyle, changed_manner};
 use rendering_page::{Frame, Manner, Page, with_case};
 use rendering_style::LabelLook;
-use rendering_taxonomy::{LabelPluralize, NameVariable, Term, Variable};
+use rendering_taxonomy::{LabelPluralize, Term};
 use std::alloc::AllocError;
 
 /// Whether a label stands in the plural. `is_plural` says whether its value is more than one.
@@ -38,22 +38,21 @@ pub fn label_manner(manner: Manner, label: &LabelLook) -> Manner
 }
 
 impl<'s, 'a> NameStyle<'s, 'a> {
-    /// Appends the label of a variable with so many people, where there is one.
+    /// Appends the label of so many people by its term, where there is one.
     pub(crate) fn push_label(
         &self,
         page: &mut Page<'a>,
-        variable: NameVariable,
+        term: Term,
         people: usize,
         label: Option<&'a LabelLook>,
     ) -> Result<(), AllocError>
         ensures { OnOk result (page.new ≡ append_here self.now
             (label_pieces self.now.setting.locales.now (name_style_view self.now).manner
-            variable people (option_map (λ b. label_look_view b.now) label.entry)) page.old) }
+            term people (option_map (λ b. label_look_view b.now) label.entry)) page.old) }
     {
         let Some(label) = label else {
             return Ok(());
         };
-        let term = Term::Variable(Variable::Name(variable));
         let is_plural = pluralizes(label.plural, 1 < people);
         let locales = self.setting.locales;
         self.push_label_text(page, label, locales.term_text(term, label.form, is_plural))
@@ -84,7 +83,7 @@ impl<'s, 'a> NameStyle<'s, 'a> {
 
 /// The affixes of a label.
 fn label_frame<'a>(manner: Manner, label: &'a LabelLook) -> Frame<'a>
-    ensures { frame_view result ≡ record { display = None; meta = None; manner = manner_view manner; prefix = (label_look_view label.now).look.prefix; suffix = (label_look_view label.now).look.suffix } }
+    ensures { frame_view result ≡ label_frame (manner_view manner) (label_look_view label.now) }
 {
     Frame {
         display: None,

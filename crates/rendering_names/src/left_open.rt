@@ -1,6 +1,6 @@
 //! What is left open changes nothing of how names are printed.
 
-ghost use Rattle.rendering_names.specs.LeftOpen.{HyphensStay, NamesAreOneText, NodeDelimitsPeople, NodesSayTheirOwn, RunsAreCut, TermIsDelimitedFromTwo};
+ghost use Rattle.rendering_names.specs.LeftOpen.{HyphensStay, NamesAreOneText, NodeDelimitsPeople, NodesSayTheirOwn, RolesArePrintedEach, RunsAreCut, TermIsDelimitedFromTwo};
 
 /// Where nothing is specified of the delimiter before the term for those left out, it stands there where two or more are shown.
 #[tactic(auto, using(crate::proofs::LeftOpenHolds::term_delimited))]
@@ -36,4 +36,11 @@ pub fn nodes_say_their_own()
 #[tactic(auto, using(crate::proofs::LeftOpenHolds::one_text))]
 pub fn names_are_one_text()
     ensures { NamesAreOneText }
+{}
+
+/// Where a node does not print editors and translators once, it prints the people of each of its
+/// variables, with a label of their own.
+#[tactic(auto, using(crate::proofs::LeftOpenHolds::roles_each))]
+pub fn roles_are_printed_each()
+    ensures { RolesArePrintedEach }
 {}

@@ -1,7 +1,7 @@
 //! A single name in words, where something is specified for its parts.
 
-ghost use Rattle.std.specs.Prelude.{◌≡◌, ◌||◌, [], map, OnOk, None, true, false, if◌then◌else◌};
-ghost use Rattle.std.specs.Option.{option_map, unwrap_or};
+ghost use Rattle.std.specs.Prelude.{◌≡◌, ◌||◌, [], map, OnOk, None, false, if◌then◌else◌};
+ghost use Rattle.std.specs.Option.{unwrap_or};
 ghost use Rattle.std.specs.Str.{chars};
 ghost use Rattle.laws.specs.Text.{is_filled, spelled};
 ghost use Rattle.literature_values.specs.PersonViews.{person_view};
@@ -190,7 +190,8 @@ impl<'s, 'a> NameStyle<'s, 'a> {
         }
         let short = short_text(self.setting.alloc, person)?;
         let suffix = text_or_empty(&person.suffix);
-        self.push_straight(page, given, short.as_str(), suffix)
+        let words = self.straight_words(given, short.as_str(), suffix);
+        self.push_words(page, &words)
     }
 
     /// Appends a name with its family name first; the particle goes after the given name where it is demoted.
@@ -213,53 +214,46 @@ impl<'s, 'a> NameStyle<'s, 'a> {
         }
         let short = short_text(self.setting.alloc, person)?;
         let suffix = text_or_empty(&person.suffix);
-        self.push_inverted(page, given, short.as_str(), suffix)
+        let words = self.inverted_words(given, short.as_str(), suffix);
+        self.push_words(page, &words)
     }
 
-    /// Appends given name, particle and family name, suffix.
-    fn push_straight<'w>(
+    /// Given name, particle and family name, suffix.
+    fn straight_words<'w>(
         &self,
-        page: &mut Page<'a>,
         given: &'w str,
         short: &'w str,
         suffix: &'w str,
-    ) -> Result<(), AllocError>
-        ensures { OnOk result (page.new ≡ append_here self.now
-            (words_pieces (name_manner (name_style_view self.now)) false
-            (straight_words (name_style_view self.now).look (chars given.now) (chars short.now)
-            (chars suffix.now))) page.old) }
+    ) -> [Word<'a, 'w>; 3]
+        ensures { map word_view result ≡ straight_words (name_style_view self.now).look
+            (chars given.now) (chars short.now) (chars suffix.now) }
     {
         let family = part_word(self.family_part(), space(), short);
         let last = part_word(None, space(), suffix);
-        let words = [
+        [
             part_word(self.given_part(), no_text(), given),
             opening(&family, &last),
             closing(&family, &last),
-        ];
-        self.push_words(page, &words)
+        ]
     }
 
-    /// Appends particle and family name, given name, suffix, with the separator between.
-    fn push_inverted<'w>(
+    /// Particle and family name, given name, suffix, with the separator between.
+    fn inverted_words<'w>(
         &self,
-        page: &mut Page<'a>,
         given: &'w str,
         short: &'w str,
         suffix: &'w str,
-    ) -> Result<(), AllocError>
-        ensures { OnOk result (page.new ≡ append_here self.now
-            (words_pieces (name_manner (name_style_view self.now)) false
-            (inverted_words (name_style_view self.now).look
+    ) -> [Word<'a, 'w>; 3]
+        ensures { map word_view result ≡ inverted_words (name_style_view self.now).look
             (unwrap_or (resolved_options_view self.now.options).sort_separator comma_and_space)
-            (chars given.now) (chars short.now) (chars suffix.now))) page.old) }
+            (chars given.now) (chars short.now) (chars suffix.now) }
     {
         let separator = self.options.sort_separator();
-        let words = [
+        [
             part_word(self.family_part(), no_text(), short),
             part_word(self.given_part(), separator, given),
             part_word(None, separator, suffix),
-        ];
-        self.push_words(page, &words)
+        ]
     }
 
     /// Appends family name, given name and particle, suffix, with the separator between.

@@ -6,9 +6,10 @@ ghost use Rattle.std.specs.List.{enumerate_from, flat_map};
 ghost use Rattle.laws.specs.Text.{characters, spelled};
 ghost use Rattle.rendering_people.specs.Counts.{cut};
 ghost use Rattle.rendering_names.specs.Around.{NamesAround};
-ghost use Rattle.rendering_names.specs.Names.{before_people, people_delimiter, beside, label_pieces, list_pieces, names_frame, every_letter, people_manner, names_pieces, node_options, people_pieces, indexed_variable, variable_frame, variable_pieces};
+ghost use Rattle.rendering_names.specs.Names.{before_people, people_delimiter, beside, label_pieces, list_pieces, names_frame, every_letter, people_manner, names_pieces, next_variable, node_options, people_pieces, indexed_variable, variable_frame, variable_pieces};
+ghost use Rattle.rendering_names.specs.Roles.{label_term};
 ghost use Rattle.rendering_people.specs.Views.{all_lent_answered_view, lent_answered_view};
-ghost use Rattle.rendering_names.specs.Views.{append_here, names_parts_view, resolved_options_view, indexed, name_style_view};
+ghost use Rattle.rendering_names.specs.Views.{append_here, counted_view, names_parts_view, resolved_options_view, indexed, name_style_view};
 ghost use Rattle.rendering_page.specs.Pieces.{append_pieces, normal};
 ghost use Rattle.rendering_page.specs.Views.{quotes_view, manner_view, frame_view};
 
@@ -27,8 +28,9 @@ use std::fmt::Write;
 use texts::{empty_text, first_text, no_text, text_or};
 
 /// Appends the people of a names node in an element that stands for them: of each variable the names that the properties
-/// show, each in its form, with the label of the variable; or only how many are shown, where the options say so. The options are those
-/// of the node by what is said around it. The properties are those of the same people, variable by variable. Nothing is promised of the page
+/// show, each in its form, with the label of the variable; or only how many are shown, where the options say so. Where the node says so,
+/// editors who are the translators too are printed once, with a label of their own. The options are those of the node by what is said
+/// around it. The properties are those of the same people, variable by variable. Nothing is promised of the page
 /// after an error.
 ///
 /// # Errors
@@ -52,13 +54,13 @@ pub fn push_names<'a>(
     let meta = names_meta(setting.alloc, people)?;
     let style = NameStyle::new(names_setting(setting, node), node, options);
     page.begin_element(&frame, meta)?;
-    style.push_people(page, node, properties, people)?;
+    style.push_people(page, &node.merging(people), properties, people)?;
     page.end_element(setting.quotes, &frame)?;
     Ok(())
 }
 
 /// The element of a names node, whatever it stands for.
-fn names_frame<'a>(manner: Manner, node: &NamesParts<'a>) -> Frame<'a>
+pub fn names_frame<'a>(manner: Manner, node: &NamesParts<'a>) -> Frame<'a>
     ensures { frame_view result
         ≡ record (names_frame (manner_view manner) (names_parts_view node.now) []) { meta = None } }
 {
@@ -66,8 +68,8 @@ fn names_frame<'a>(manner: Manner, node: &NamesParts<'a>) -> Frame<'a>
         display: node.look.display,
         meta: None,
         manner,
-        prefix: node.look.prefix.as_str(),
-        suffix: node.look.suffix.as_str(),
+        prefix: node.prefix,
+        suffix: node.suffix,
     }
 }
 
@@ -153,7 +155,8 @@ impl<'s, 'a> NameStyle<'s, 'a> {
         people: &[Answered<'_>],
     ) -> Result<(), AllocError>
         ensures { OnOk result (page.new ≡ append_here self.now
-            (flat_map (indexed_variable (name_style_view self.now) (names_parts_view node.now))
+            (flat_map (indexed_variable (name_style_view self.now) (names_parts_view node.now)
+            (all_lent_answered_view people.now))
             (enumerate_from 0 (zip (cut counts.now forms.now) (all_lent_answered_view people.now))))
             page.old) }
     {
@@ -161,11 +164,34 @@ impl<'s, 'a> NameStyle<'s, 'a> {
         for index in 0..counts.len().min(people.len()) {
             let count = counts[index];
             let (own, others) = split_forms(rest, count.people);
-            self.push_before_people(page, node, index)?;
-            self.push_variable(page, node, count, own, &people[index])?;
+            let (before, _) = people.split_at(index);
+            self.push_next(page, node, before, count, own, &people[index])?;
             rest = others;
         }
         Ok(())
+    }
+
+    /// Appends the people of a variable after what stands before them, unless people before them
+    /// are printed who are the same in their other role.
+    fn push_next(
+        &self,
+        page: &mut Page<'a>,
+        node: &NamesParts<'a>,
+        before: &[Answered<'_>],
+        count: PeopleCount,
+        forms: &[DisambiguatedNameForm],
+        answered: &Answered<'_>,
+    ) -> Result<(), AllocError>
+        ensures { OnOk result (page.new ≡ append_here self.now
+            (next_variable (name_style_view self.now) (names_parts_view node.now)
+            (all_lent_answered_view before.now) (length before.now)
+            (counted_view count forms.now answered.now)) page.old) }
+    {
+        if node.leaves_out(before, answered.variable) {
+            return Ok(());
+        }
+        self.push_before_people(page, node, before.len())?;
+        self.push_variable(page, node, count, forms, answered)
     }
 
     /// Appends what stands before the people of the variable at an index.
@@ -206,7 +232,9 @@ impl<'s, 'a> NameStyle<'s, 'a> {
         forms: &[DisambiguatedNameForm],
         answered: &Answered<'_>,
     ) -> Result<(), AllocError>
-        ensures { OnOk result (page.new ≡ append_here self.now (variable_pieces (name_style_view self.now) (names_parts_view node.now) (record { variable = count.variable; forms = forms.now; shown = count.shown }, lent_answered_view answered.now)) page.old) }
+        ensures { OnOk result (page.new ≡ append_here self.now
+            (variable_pieces (name_style_view self.now) (names_parts_view node.now)
+            (counted_view count forms.now answered.now)) page.old) }
     {
         let frame = self.variable_frame();
         page.begin_element(&frame, ElemMeta::NameVariable(answered.variable))?;
@@ -226,19 +254,21 @@ impl<'s, 'a> NameStyle<'s, 'a> {
     ) -> Result<(), AllocError>
         ensures { OnOk result (page.new
             ≡ append_here self.now (beside (names_parts_view node.now).label_is_first (label_pieces
-            self.now.setting.locales.now (name_style_view self.now).manner answered.now.variable
+            self.now.setting.locales.now (name_style_view self.now).manner
+            (label_term (names_parts_view node.now) answered.now.variable)
             (length (lent_answered_view answered.now).0) (names_parts_view node.now).label)
             (list_pieces (name_style_view self.now) answered.now.variable shown
             (indexed forms.now answered.now.people.items))) page.old) }
     {
         let variable = answered.variable;
         let people = answered.people.as_slice();
+        let term = node.label_term(variable);
         if node.label_is_first {
-            self.push_label(page, variable, people.len(), node.label)?;
+            self.push_label(page, term, people.len(), node.label)?;
             return self.push_list(page, variable, shown, forms, people);
         }
         self.push_list(page, variable, shown, forms, people)?;
-        self.push_label(page, variable, people.len(), node.label)
+        self.push_label(page, term, people.len(), node.label)
     }
 
     /// An element without affixes.

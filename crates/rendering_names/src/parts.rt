@@ -2,7 +2,7 @@
 
 ghost use Rattle.std.specs.Prelude.{◌≡◌, ◌||◌, is_some, if◌then◌else◌};
 ghost use Rattle.std.specs.Option.{option_map, option_or};
-ghost use Rattle.rendering_names.specs.Names.{completed, node_options, own_over};
+ghost use Rattle.rendering_names.specs.Names.{completed, node_options, own_over, without_affixes};
 ghost use Rattle.rendering_names.specs.Views.{names_around_view, names_parts_view, resolved_options_view};
 ghost use Rattle.rendering_style.specs.Views.{names_node_view, label_look_view};
 
@@ -10,7 +10,7 @@ use crate::around::NamesAround;
 use crate::options::ResolvedNameOptions;
 use rendering_style::{EtAl, LabelLook, Look, Name, Names};
 use rendering_taxonomy::NameVariable;
-use texts::borrowed_text;
+use texts::{borrowed_text, no_text};
 
 /// What a names node says: its own, and, where it is a substitute for another one, what it takes from that.
 #[derive(Clone, Copy)]
@@ -26,6 +26,10 @@ pub struct NamesParts<'a> {
     /// The text between the people of two variables.
     pub delimiter: Option<&'a str>,
     pub look: &'a Look,
+    /// What stands before all names, in place of the prefix of the look.
+    pub prefix: &'a str,
+    /// What stands after all names, in place of the suffix of the look.
+    pub suffix: &'a str,
 }
 
 impl<'a> NamesParts<'a> {
@@ -42,6 +46,8 @@ impl<'a> NamesParts<'a> {
             merges_editor_translator: node.merges_editor_translator,
             delimiter: borrowed_text(&node.delimiter),
             look: &node.look,
+            prefix: node.look.prefix.as_str(),
+            suffix: node.look.suffix.as_str(),
         }
     }
 
@@ -59,6 +65,17 @@ impl<'a> NamesParts<'a> {
             et_al: outer.et_al,
             label: or_label(self.label, outer.label),
             label_is_first: self.label_is_first_or(outer.label_is_first),
+            ..*self
+        }
+    }
+
+    /// The same without affixes.
+    pub fn without_affixes(&self) -> NamesParts<'a>
+        ensures { names_parts_view result ≡ without_affixes (names_parts_view self.now) }
+    {
+        NamesParts {
+            prefix: no_text(),
+            suffix: no_text(),
             ..*self
         }
     }

@@ -1,10 +1,10 @@
 //! How the names of a node are appended.
 
-ghost use Rattle.std.specs.Prelude.{◌≡◌, None};
+ghost use Rattle.std.specs.Prelude.{◌≡◌};
 ghost use Rattle.laws.specs.Text.{spelled};
 ghost use Rattle.rendering_taxonomy.specs.Views.{changes_view};
 ghost use Rattle.rendering_names.specs.Around.{NamesAround};
-ghost use Rattle.rendering_names.specs.Names.{style_of, and_text, et_al_term, node_options};
+ghost use Rattle.rendering_names.specs.Names.{style_of, and_text, et_al_manner, et_al_term, name_frame, name_manner, node_options};
 ghost use Rattle.rendering_names.specs.Views.{names_parts_view, resolved_options_view, name_style_view};
 ghost use Rattle.rendering_page.specs.Views.{manner_view, frame_view};
 ghost use Rattle.rendering_taxonomy.specs.Formats.{changed};
@@ -76,7 +76,7 @@ impl<'s, 'a> NameStyle<'s, 'a> {
 
     /// The affixes of a single name.
     pub(crate) fn name_frame(&self) -> Frame<'a>
-        ensures { frame_view result ≡ record { display = None; meta = None; manner = (name_style_view self.now).manner; prefix = (name_style_view self.now).look.prefix; suffix = (name_style_view self.now).look.suffix } }
+        ensures { frame_view result ≡ name_frame (name_style_view self.now) }
     {
         Frame {
             display: None,
@@ -109,7 +109,7 @@ impl<'s, 'a> NameStyle<'s, 'a> {
 
     /// How the text of a single name is appended.
     pub(crate) fn name_manner(&self) -> Manner
-        ensures { manner_view result ≡ record (name_style_view self.now).manner { formatting = changed (name_style_view self.now).look.formatting (name_style_view self.now).manner.formatting } }
+        ensures { manner_view result ≡ name_manner (name_style_view self.now) }
     {
         match self.name {
             Some(name) => changed_manner(name.formatting, self.setting.manner),
@@ -119,7 +119,7 @@ impl<'s, 'a> NameStyle<'s, 'a> {
 
     /// How the term for those left out is appended.
     pub(crate) fn et_al_manner(&self) -> Manner
-        ensures { manner_view result ≡ record (name_style_view self.now).manner { formatting = changed (name_style_view self.now).et_al.formatting (name_style_view self.now).manner.formatting } }
+        ensures { manner_view result ≡ et_al_manner (name_style_view self.now) }
     {
         match self.et_al {
             Some(et_al) => changed_manner(et_al.formatting, self.setting.manner),

@@ -1,5 +1,5 @@
 -- What one more node adds to a page.
-use Rattle.std.proofs.Common.{◌≡◌, ℕ, ◌+◌, ◌<◌, Bool, true, false, not, ◌&&◌, ◌||◌, List, length, drop, get_or, None, refl, sym, ap, ◌∙◌, if◌then◌else◌}
+use Rattle.std.proofs.Common.{◌≡◌, ℕ, ◌+◌, ◌<◌, Bool, true, false, not, ◌&&◌, ◌||◌, List, [], length, drop, get_or, None, refl, sym, ap, ◌∙◌, if◌then◌else◌}
 use Rattle.std.proofs.lemmas.Bool.{false≢true}
 use Rattle.rendering_context.specs.Contexts.{Context}
 use Rattle.rendering_context.specs.Choosing.{is_met, asks_disambiguate}
@@ -9,11 +9,11 @@ use Rattle.rendering_style.specs.Nodes.{NamesNode, Nodes, Branches, otherwise, b
 use Rattle.rendering_style.specs.Opening.{each_node, each_branch}
 use Rattle.rendering_style.specs.Views.{node_view, nodes_view}
 use Rattle.rendering_style.specs.declared.node.Node as viewed
-use Rattle.rendering_nodes.specs.Content.{accepted, chosen, content, contents, delimited, first_substitute, stage}
+use Rattle.rendering_nodes.specs.Content.{accepted, chosen, content, contents, delimited, delimited_frame, delimited_node, delimits_printed, entered, first_substitute, left, stage}
 use Rattle.rendering_nodes.specs.Admission.{survey}
 use Rattle.rendering_nodes.specs.Taken.{TakenNodes, taken_after, taken}
-use Rattle.rendering_nodes.specs.Turns.{asked, attempt, is_next, append_next, append_substitute, is_substitute}
-use Rattle.rendering_page.specs.Pages.{prints}
+use Rattle.rendering_nodes.specs.Turns.{asked, attempt, in_delimited, is_next, append_next, append_substitute, is_substitute}
+use Rattle.rendering_page.specs.Pages.{Frame, prints}
 use Rattle.rendering_nodes.proofs.FindingsSteps.{left_is}
 use Rattle.rendering_nodes.proofs.SurveySteps.{or_assoc, or_none, opened_taken}
 
@@ -55,16 +55,41 @@ choose_appended c s f bs xs met st middle new is m e =
 pub next_passed : (c : Context) (s : NodeSetting) (is_first b : Bool) (x : nodes.Node) (st new : State)
     → b ≡ is_next c s x st → b ≡ false → new ≡ asked c s x st → new ≡ append_next c s is_first x st
 next_passed c s is_first b x st new is so append =
-    append ∙ ap (λ y. if y then content c None s x (delimited c s is_first (asked c s x st)) else asked c s x st) (sym so ∙ is)
+    append ∙ ap (λ y. if y then delimited_node c s is_first (content c None s x) (asked c s x st) else asked c s x st) (sym so ∙ is)
 
--- a node that is admitted, after the delimiter
-pub next_admitted : (c : Context) (s : NodeSetting) (is_first b : Bool) (x : nodes.Node) (st middle before new : State)
-    → b ≡ is_next c s x st → b ≡ true → middle ≡ asked c s x st → before ≡ delimited c s is_first middle → new ≡ content c None s x before
+-- a node that is admitted
+pub next_admitted : (c : Context) (s : NodeSetting) (is_first b : Bool) (x : nodes.Node) (st middle new : State)
+    → b ≡ is_next c s x st → b ≡ true → middle ≡ asked c s x st → new ≡ delimited_node c s is_first (content c None s x) middle
     → new ≡ append_next c s is_first x st
-next_admitted c s is_first b x st middle before new is so e f append =
+next_admitted c s is_first b x st middle new is so e append =
     append
-    ∙ ap (content c None s x) (f ∙ ap (delimited c s is_first) e)
-    ∙ ap (λ y. if y then content c None s x (delimited c s is_first (asked c s x st)) else asked c s x st) (sym so ∙ is)
+    ∙ ap (delimited_node c s is_first (content c None s x)) e
+    ∙ ap (λ y. if y then delimited_node c s is_first (content c None s x) (asked c s x st) else asked c s x st) (sym so ∙ is)
+
+-- a node after the delimiter
+pub delimited_on : (c : Context) (s : NodeSetting) (is_first b : Bool) (x : nodes.Node) (st before new : State)
+    → b ≡ delimits_printed s st → b ≡ false → before ≡ delimited c s is_first st → new ≡ content c None s x before
+    → new ≡ delimited_node c s is_first (content c None s x) st
+delimited_on c s is_first b x st before new is so e append =
+    append
+    ∙ ap (content c None s x) e
+    ∙ ap (λ y. if y then in_delimited c s x st else content c None s x (delimited c s is_first st)) (sym so ∙ is)
+
+-- a node in an element with the delimiter
+pub delimited_in : (c : Context) (s : NodeSetting) (is_first b : Bool) (x : nodes.Node) (st new : State)
+    → b ≡ delimits_printed s st → b ≡ true → new ≡ in_delimited c s x st
+    → new ≡ delimited_node c s is_first (content c None s x) st
+delimited_in c s is_first b x st new is so append =
+    append
+    ∙ ap (λ y. if y then in_delimited c s x st else content c None s x (delimited c s is_first st)) (sym so ∙ is)
+
+-- the element with the delimiter: it begins, the node follows, it ends
+pub delimited_by : (c : Context) (s : NodeSetting) (x : nodes.Node) (f : Frame) (st begun done new : State)
+    → f ≡ delimited_frame s st → begun ≡ entered c f [] st → done ≡ content c None s x begun → new ≡ left c f [] done
+    → new ≡ in_delimited c s x st
+delimited_by c s x f st begun done new same begins follow ends =
+    let inside = follow ∙ ap (content c None s x) (begins ∙ ap (λ (g : Frame). entered c g [] st) same) in
+    ends ∙ (λ i. left c (same i) [] (inside i))
 
 -- what is left of nodes, one step on
 pub contents_more : (c : Context) (s : NodeSetting) (f : nodes.Node → nodes.Node) (xs : List viewed.Node) (i : ℕ) (x : viewed.Node) (is_first b w : Bool) (st new end : State)

@@ -5,10 +5,10 @@ use Rattle.std.specs.Option.{option_map_or}
 use Rattle.rendering_context.specs.Answering.{date_answer}
 use Rattle.rendering_context.specs.Choosing.{is_met, asks_disambiguate}
 use Rattle.rendering_context.specs.Contexts.{Context}
-use Rattle.rendering_leaves.specs.NodeSettings.{SpecialForm, whole, author_only, without_author, first_date_only, suffix_only, NodeSetting, State}
+use Rattle.rendering_leaves.specs.NodeSettings.{SpecialForm, whole, author_only, without_author, first_date_only, suffix_only, authors_alone, without_names, NodeSetting, State}
 use Rattle.rendering_style.specs.Nodes as nodes
 use Rattle.rendering_style.specs.Nodes.{of_variable, of_term, of_value, Leaf, Node, Nodes, Branches, leaf, call, opened, names, choose, group, no_nodes, node, otherwise, branch}
-use Rattle.rendering_nodes.specs.Admission.{Stage, Survey, allows_date, asks_for_date, both, branch_survey, containing, group_survey, has_people, leaf_survey, names_survey, nothing, survey, surveys, variable_survey}
+use Rattle.rendering_nodes.specs.Admission.{Stage, Survey, allows_date, asks_for_date, both, branch_survey, containing, group_survey, has_people, is_shut_out, leaf_survey, names_survey, nothing, survey, surveys, variable_survey}
 use Rattle.rendering_nodes.specs.Content.{stage}
 use Rattle.rendering_nodes.specs.Findings.{stage_then}
 use Rattle.rendering_nodes.specs.declared.finding.Findings.{Findings}
@@ -23,6 +23,8 @@ allowed c (author_only v) a b e = refl
 allowed c without_author a b e = refl
 allowed c first_date_only a b e = absurd (true≢false e)
 allowed c suffix_only a b e = absurd (true≢false e)
+allowed c (authors_alone v) a b e = refl
+allowed c (without_names v) a b e = refl
 
 leaf_same : (s : Stage) (a b : Bool) (x : Leaf) → asks_for_date s.form ≡ false → leaf_survey (dated s a) x ≡ leaf_survey (dated s b) x
 leaf_same s a b (nodes.text (of_variable v form) look) e = refl
@@ -32,16 +34,16 @@ leaf_same s a b (nodes.number n) e = refl
 leaf_same s a b (nodes.label v look) e = refl
 leaf_same s a b (nodes.date d) e = ap (λ allows. variable_survey (option_map_or (λ day. true) (date_answer s.context s.suppressed d.variable) false && allows)) (allowed s.context s.form a b e)
 
-names_same : (s : Stage) (a b : Bool) (h : nodes.NamesNode) (people : Bool) (inside more : Survey) → inside ≡ more → names_survey (dated s a) h people inside ≡ names_survey (dated s b) h people more
-names_same s a b h true inside more e = refl
-names_same s a b h false inside more e = ap (names_survey (dated s b) h false) e
+names_same : (s : Stage) (a b : Bool) (h : nodes.NamesNode) (people out : Bool) (inside more : Survey) → inside ≡ more → names_survey (dated s a) h people out inside ≡ names_survey (dated s b) h people out more
+names_same s a b h true out inside more e = refl
+names_same s a b h false out inside more e = ap (names_survey (dated s b) h false out) e
 
 mutual
   survey_same : (s : Stage) (a b : Bool) (x : Node) → asks_for_date s.form ≡ false → survey (dated s a) x ≡ survey (dated s b) x
   survey_same s a b (leaf l) e = leaf_same s a b l e
   survey_same s a b (call name look) e = refl
   survey_same s a b (opened look xs) e = ap (λ (v : Survey). containing v.is_admitted v) (surveys_same s a b xs e)
-  survey_same s a b (names h xs) e = names_same s a b h (has_people s h) (surveys (dated s a) xs) (surveys (dated s b) xs) (surveys_same s a b xs e)
+  survey_same s a b (names h xs) e = names_same s a b h (has_people s h) (is_shut_out s h xs) (surveys (dated s a) xs) (surveys (dated s b) xs) (surveys_same s a b xs e)
   survey_same s a b (choose bs) e = branch_same s a b bs e
   survey_same s a b (group g xs) e = ap group_survey (surveys_same s a b xs e)
 

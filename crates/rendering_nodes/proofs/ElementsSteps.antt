@@ -42,12 +42,12 @@ disambiguated_some c None own e = cc
 disambiguated_some c (Some first) own e = refl
 
 -- the first names are raised
-pub disambiguated_none : (c : Context) (names : Option Properties) (own : Properties) → is_some names ≡ false → raised_to (names_of c.properties.disambiguation) own ≡ disambiguated c names own
+pub disambiguated_none : (c : Context) (names : Option Properties) (own : Properties) → is_some names ≡ false → raised_to (names_of c.properties.disambiguation) (raised_to c.properties.first_names own) ≡ disambiguated c names own
 disambiguated_none c None own e = refl
 disambiguated_none c (Some first) own e = cc
 
 -- nothing raises nothing
-raised_none : (own : Properties) → own ≡ raised_to [] own
+pub raised_none : (own : Properties) → own ≡ raised_to [] own
 raised_none [] = refl
 raised_none (p ∷ ps) = ap (λ qs. p ∷ qs) (raised_none ps)
 

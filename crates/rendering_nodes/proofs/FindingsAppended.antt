@@ -11,7 +11,7 @@ use Rattle.rendering_style.specs.Views.{node_view, nodes_view}
 use Rattle.rendering_style.specs.Styles.{Macro}
 use Rattle.rendering_style.specs.declared.node.Node as declared
 use Rattle.rendering_taxonomy.specs.declared.variable.Variable.{Variable}
-use Rattle.rendering_nodes.specs.Admission.{Stage, has_people, excludes}
+use Rattle.rendering_nodes.specs.Admission.{Stage, has_people, is_shut_out}
 use Rattle.rendering_nodes.specs.Content.{stage}
 use Rattle.rendering_nodes.specs.Findings.{AreAll, AreFound, AreFoundInside, Asked, IsFound, IsSurveyed, beside_people, found, node_asked, stage_then}
 use Rattle.rendering_nodes.specs.Taken.{taken}
@@ -35,16 +35,16 @@ never_all : (b : Bool) (f : Finding) (fs all : List Finding) → AreAll (f ∷ f
 never_all true f fs all e = absurd (search (rules, e))
 never_all false f fs all e = e
 
-beside_all : (s : Stage) (h : NamesNode) (b : Bool) (fs all : List Finding) → AreAll fs (beside_people s h b all) → AreAll fs all
-beside_all s h b [] all e = tt
-beside_all s h true (f ∷ fs) all e = never_all true f fs all e
-beside_all s h false (f ∷ fs) all e = never_all (excludes s.form h) f fs all e
+beside_all : (b out : Bool) (fs all : List Finding) → AreAll fs (beside_people b out all) → AreAll fs all
+beside_all b out [] all e = tt
+beside_all true out (f ∷ fs) all e = never_all true f fs all e
+beside_all false out (f ∷ fs) all e = never_all out f fs all e
 
 -- of the substitute of names
 pub substitutes_as : (c : Context) (form : SpecialForm) (k : Findings) (h : NamesNode) (xs : Nodes) (y : Node) → y ≡ nodes.names h xs → AreFoundInside c form k y → AreFound c form k xs
 substitutes_as c form k h xs y same known =
     let s = stage_then c form k in
-    beside_all s h (has_people s h) k.nodes.now (found s xs) (inside_as c form k y (nodes.names h xs) same known)
+    beside_all (has_people s h) (is_shut_out s h xs) k.nodes.now (found s xs) (inside_as c form k y (nodes.names h xs) same known)
 
 -- of the branch that is taken
 pub taken_as : (c : Context) (form : SpecialForm) (k : Findings) (f : Node → Node) (bs : Branches) (xs : Nodes) (met : Bool) → (xs, met) ≡ taken c bs

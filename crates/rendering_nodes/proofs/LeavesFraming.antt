@@ -16,6 +16,7 @@ use Rattle.rendering_tree.specs.Metas.{Meta, Answered}
 use Rattle.rendering_tree.specs.Metas as metas
 use Rattle.rendering_dates.specs.Dates as dates
 use Rattle.rendering_dates.specs.Dates.{DateShape, cut_to, date_pieces}
+use Rattle.rendering_dates.specs.Sides as sides
 use Rattle.rendering_page.specs.Pages.{Page, Manner, uncased, Frame}
 use Rattle.rendering_page.specs.Pieces.{Piece, normal}
 use Rattle.rendering_style.specs.Options.{NameOptions}
@@ -26,16 +27,19 @@ use Rattle.rendering_names.specs.Names as names
 use Rattle.rendering_names.specs.Names.{NameStyle, IndexedPerson, names_pieces}
 use Rattle.rendering_names.specs.NameParts.{Word, has_parts, part_manner, person_pieces, person_words, word_pieces, words_pieces}
 use Rattle.rendering_names.specs.Persons.{person_text}
+use Rattle.rendering_names.specs.Roles as roles
 use Rattle.rendering_people.specs.Properties.{VariableProperties, Properties, all_shown}
 use Rattle.rendering_context.specs.Contexts.{Context}
-use Rattle.rendering_context.specs.Answering.{Answer, no_answer, pieces, address, count, ranges, own, answer_to, asked_for, date_answer, is_plural_variable}
-use Rattle.rendering_leaves.specs.NodeSettings.{with_variable, SpecialForm, suffix_only, NodeSetting, State, append}
-use Rattle.rendering_leaves.specs.Values.{text_manner, number_manner, date_manner, frame, open_term, close_term, quote_before, quote_after, meaning, answer_pieces, identified, is_label_variable, is_number_variable, label_suffix, label_term, own_year_suffix, source_pieces, text_pieces, number_pieces, label_pieces, date_inside, date_frame, date_suffix, day_pieces, shape_of, suppressing, using, after_variable, append_leaf}
+use Rattle.rendering_context.specs.Answering.{Answer, no_answer, pieces, address, count, ranges, own, answer_to, text_answer_to, asked_for, date_answer, is_plural_variable}
+use Rattle.rendering_leaves.specs.NodeSettings.{with_variable, SpecialForm, suffix_only, NodeSetting, State, append, with_printed, standing}
+use Rattle.rendering_leaves.specs.Values.{text_manner, number_manner, date_manner, frame, open_term, close_term, quote_before, quote_after, meaning, answer_pieces, identified, is_label_variable, is_number_variable, label_suffix, label_term, own_year_suffix, source_pieces, text_pieces, number_pieces, label_pieces, date_inside, date_frame, date_suffix, day_pieces, shape_of, suppressing, using, after_variable, append_leaf, is_passed_over}
+use Rattle.rendering_leaves.specs.Quoted.{are_inner, requoted}
 use Rattle.rendering_taxonomy.specs.Variables.{is_variable}
 use Rattle.rendering_taxonomy.specs.declared.date.LongShortForm.TheVariants as lengths
 use Rattle.rendering_taxonomy.specs.declared.name.DisambiguatedNameForm.{DisambiguatedNameForm}
 use Rattle.rendering_taxonomy.specs.declared.number.NumberForm.{NumberForm}
 use Rattle.rendering_taxonomy.specs.declared.number.NumberForm.TheVariants as number_forms
+use Rattle.rendering_taxonomy.specs.declared.term.Term.{Term}
 use Rattle.rendering_taxonomy.specs.declared.term.Term.TheVariants as terms
 use Rattle.rendering_taxonomy.specs.declared.term.TermForm.TheVariants as term_forms
 use Rattle.rendering_taxonomy.specs.declared.variable.NameVariable.{NameVariable}
@@ -74,21 +78,23 @@ ends_identified m v ps h = h
 ends_label_suffix : (c : Context) (m : Manner) (v : Variable) → EndAll (label_suffix c m v)
 ends_label_suffix c m v = ends_either (is_label_variable v) (normal m (own_year_suffix c) ∷ []) [] (ends_normal m (own_year_suffix c)) ends_none
 
-ends_source : (c : Context) (vs : List Variable) (m : Manner) (source : TextSource) → EndAll (source_pieces c vs m source)
-ends_source c vs m (of_variable v form) =
-    let answer = answer_pieces c m number_forms.Numeric (answer_to c vs form v) in
+ends_source : (c : Context) (inner : Bool) (vs : List Variable) (m : Manner) (source : TextSource) → EndAll (source_pieces c inner vs m source)
+ends_source c inner vs m (of_variable v form) =
+    let printed = requoted c inner (text_answer_to c vs form v) in
+    let answer = answer_pieces c m number_forms.Numeric printed in
     ends_both (identified m v answer) (label_suffix c m v)
-    (ends_identified m v answer (ends_answer c m number_forms.Numeric (answer_to c vs form v))) (ends_label_suffix c m v)
-ends_source c vs m (of_term name form plural) = ends_normal m (term_text c.locales name form plural)
-ends_source c vs m (of_value cs) = ends_normal m cs
+    (ends_identified m v answer (ends_answer c m number_forms.Numeric printed)) (ends_label_suffix c m v)
+ends_source c inner vs m (of_term name form plural) = ends_normal m (term_text c.locales name form plural)
+ends_source c inner vs m (of_value cs) = ends_normal m cs
 
 ends_text : (c : Context) (s : NodeSetting) (vs : List Variable) (source : TextSource) (look : TextLook) → EndAll (text_pieces c s vs source look)
 ends_text c s vs source look =
     let m = text_manner s.manner look in
     let before = quote_before c m look.quotes s.inside_quotes in
-    let inside = source_pieces c vs m source in
+    let inner = are_inner look.quotes s.inside_quotes in
+    let inside = source_pieces c inner vs m source in
     let after = quote_after c m look.quotes s.inside_quotes in
-    let begins = ends_both before inside (ends_quote_before c m look.quotes s.inside_quotes) (ends_source c vs m source) in
+    let begins = ends_both before inside (ends_quote_before c m look.quotes s.inside_quotes) (ends_source c inner vs m source) in
     ends_framed (frame s.manner (Some metas.Text) look.look) ((before ++ inside) ++ after)
     (ends_both (before ++ inside) after begins (ends_quote_after c m look.quotes s.inside_quotes))
 
@@ -138,15 +144,29 @@ ends_side : (ls : List Locale) (m : Manner) (shape : DateShape) (year_suffix : L
 ends_side ls m shape year_suffix d =
     ends_joined (normal m shape.delimiter ∷ []) (flat_map (dates.part_pieces ls m year_suffix d) shape.parts) (ends_normal m shape.delimiter) (ends_parts ls m year_suffix d shape.parts)
 
+ends_apart : (m : Manner) (delimiter : List ℕ) (one other : List Piece) → EndAll one → EndAll other → EndAll (one ++ normal m delimiter ∷ [] ++ other)
+ends_apart m delimiter one other h k =
+    let between = normal m delimiter ∷ [] in
+    ends_both (one ++ between) other (ends_both one between h (ends_normal m delimiter)) k
+
+ends_whole : (ls : List Locale) (m : Manner) (shape : DateShape) (year_suffix : List ℕ) (first last : Date) → EndAll (dates.whole_sides ls m shape year_suffix first last)
+ends_whole ls m shape year_suffix first last =
+    ends_apart m (dates.range_delimiter first last shape.parts) (dates.side_pieces ls m shape [] first) (dates.side_pieces ls m shape year_suffix last)
+    (ends_side ls m shape [] first) (ends_side ls m shape year_suffix last)
+
+ends_merged : (ls : List Locale) (m : Manner) (shape : DateShape) (year_suffix : List ℕ) (first last : Date) → EndAll (dates.merged_sides ls m shape year_suffix first last)
+ends_merged ls m shape year_suffix first last =
+    ends_apart m (dates.range_delimiter first last shape.parts) (dates.first_half ls m shape year_suffix first last) (dates.last_half ls m shape year_suffix first last)
+    (ends_side ls m (record shape { parts = sides.first_parts first last shape.parts }) (if sides.share_year first last then year_suffix else []) first)
+    (ends_side ls m (record shape { parts = sides.last_parts first last shape.parts }) year_suffix last)
+
 ends_sides : (ls : List Locale) (m : Manner) (shape : DateShape) (year_suffix : List ℕ) (first last : Date) → EndAll (dates.both_pieces ls m shape year_suffix first last)
 ends_sides ls m shape year_suffix first last =
-    let one = dates.side_pieces ls m shape [] first in
-    let delimiter = dates.range_delimiter first last shape.parts in
-    let between = normal m delimiter ∷ [] in
-    let other = dates.side_pieces ls m shape year_suffix last in
-    let begins = ends_both one between (ends_side ls m shape [] first) (ends_normal m delimiter) in
-    ends_either (bytes_eq (dates.side_text ls m shape first) (dates.side_text ls m shape last)) (dates.side_pieces ls m shape year_suffix first) ((one ++ between) ++ other)
-    (ends_side ls m shape year_suffix first) (ends_both (one ++ between) other begins (ends_side ls m shape year_suffix last))
+    let merged = dates.merged_sides ls m shape year_suffix first last in
+    let whole = dates.whole_sides ls m shape year_suffix first last in
+    ends_either (bytes_eq (dates.side_text ls m shape first) (dates.side_text ls m shape last)) (dates.side_pieces ls m shape year_suffix first) (dates.sides ls m shape year_suffix first last)
+    (ends_side ls m shape year_suffix first)
+    (ends_either shape.merges_ranges merged whole (ends_merged ls m shape year_suffix first last) (ends_whole ls m shape year_suffix first last))
 
 ends_to : (ls : List Locale) (m : Manner) (shape : DateShape) (year_suffix : List ℕ) (d : Date) (e : Option DateEnd) → EndAll (dates.ended_pieces ls m shape year_suffix d e)
 ends_to ls m shape year_suffix d None = ends_side ls m shape year_suffix d
@@ -231,10 +251,10 @@ ends_list s v shown ps =
     ends_both (names.shown_pieces s v (length ps) (take shown ps)) (names.rest_pieces s v (length ps) shown ps)
     (ends_shown s v (length ps) (take shown ps)) (ends_rest s v (length ps) shown ps)
 
-ends_name_label : (ls : List Locale) (m : Manner) (v : NameVariable) (n : ℕ) (o : Option LabelLook) → EndAll (names.label_pieces ls m v n o)
-ends_name_label ls m v n None = ends_none
-ends_name_label ls m v n (Some l) =
-    let cs = term_text ls (terms.Variable (variables.Name v)) l.form (names.pluralizes l.plural (nat_lt 1 n)) in
+ends_name_label : (ls : List Locale) (m : Manner) (t : Term) (n : ℕ) (o : Option LabelLook) → EndAll (names.label_pieces ls m t n o)
+ends_name_label ls m t n None = ends_none
+ends_name_label ls m t n (Some l) =
+    let cs = term_text ls t l.form (names.pluralizes l.plural (nat_lt 1 n)) in
     let f : Frame = record { display = None; meta = None; manner = m; prefix = l.look.prefix; suffix = l.look.suffix } in
     ends_framed f (normal (names.label_manner m l) cs ∷ []) (ends_normal (names.label_manner m l) cs)
 
@@ -244,29 +264,31 @@ ends_beside false label ps h k = ends_both ps label k h
 
 ends_variable : (s : NameStyle) (h : NamesNode) (p : VariableProperties × Answered) → EndAll (names.variable_pieces s h p)
 ends_variable s h (p, a) =
-    let label = names.label_pieces s.locales s.manner a.1 (length a.0) h.label in
+    let label = names.label_pieces s.locales s.manner (roles.label_term h a.1) (length a.0) h.label in
     let people = names.list_pieces s a.1 p.shown (enumerate_from 0 (zip p.forms a.0)) in
     ends_framed (names.variable_frame s.manner a.1) (names.beside h.label_is_first label people)
-    (ends_beside h.label_is_first label people (ends_name_label s.locales s.manner a.1 (length a.0) h.label) (ends_list s a.1 p.shown (enumerate_from 0 (zip p.forms a.0))))
+    (ends_beside h.label_is_first label people (ends_name_label s.locales s.manner (roles.label_term h a.1) (length a.0) h.label) (ends_list s a.1 p.shown (enumerate_from 0 (zip p.forms a.0))))
 
 ends_before_people : (m : Manner) (o : NameOptions) (h : NamesNode) (i : ℕ) → EndAll (names.before_people m o h i)
 ends_before_people m o h i =
     let cs = names.people_delimiter o h in
     ends_either (i == 0) [] (normal m cs ∷ []) ends_none (ends_normal m cs)
 
-ends_indexed_variable : (s : NameStyle) (h : NamesNode) (p : ℕ × (VariableProperties × Answered)) → EndAll (names.indexed_variable s h p)
-ends_indexed_variable s h p =
-    ends_both (names.before_people s.manner s.options h p.0) (names.variable_pieces s h p.1) (ends_before_people s.manner s.options h p.0) (ends_variable s h p.1)
+ends_indexed_variable : (s : NameStyle) (h : NamesNode) (people : List Answered) (p : ℕ × (VariableProperties × Answered)) → EndAll (names.indexed_variable s h people p)
+ends_indexed_variable s h people p =
+    ends_either (roles.is_left_out h (take p.0 people) ((p.1).1).1) [] (names.before_people s.manner s.options h p.0 ++ names.variable_pieces s h p.1)
+    ends_none
+    (ends_both (names.before_people s.manner s.options h p.0) (names.variable_pieces s h p.1) (ends_before_people s.manner s.options h p.0) (ends_variable s h p.1))
 
 ends_people : (s : NameStyle) (h : NamesNode) (ps : Properties) (people : List Answered) → EndAll (names.people_pieces s h ps people)
 ends_people s h ps people =
-    ends_either (names.is_count s.options.form) (normal s.manner (decimal (all_shown ps)) ∷ []) (flat_map (names.indexed_variable s h) (enumerate_from 0 (zip ps people)))
-    (ends_normal s.manner (decimal (all_shown ps))) (ends_each (names.indexed_variable s h) (ends_indexed_variable s h) (enumerate_from 0 (zip ps people)))
+    ends_either (names.is_count s.options.form) (normal s.manner (decimal (all_shown ps)) ∷ []) (flat_map (names.indexed_variable s h people) (enumerate_from 0 (zip ps people)))
+    (ends_normal s.manner (decimal (all_shown ps))) (ends_each (names.indexed_variable s h people) (ends_indexed_variable s h people) (enumerate_from 0 (zip ps people)))
 
 pub ends_names : (ls : List Locale) (m : Manner) (h : NamesNode) (around : NamesAround) (ps : Properties) (people : List Answered) → EndAll (names_pieces ls m h around ps people)
 ends_names ls m h around ps people =
-    ends_framed (names.names_frame m h people) (names.people_pieces (names.style_of ls (names.people_manner m h) h around) h ps people)
-    (ends_people (names.style_of ls (names.people_manner m h) h around) h ps people)
+    ends_framed (names.names_frame m h people) (names.people_pieces (names.style_of ls (names.people_manner m h) h around) (roles.merging h people) ps people)
+    (ends_people (names.style_of ls (names.people_manner m h) h around) (roles.merging h people) ps people)
 
 -- what is open on the page of a state is what was on the other one's
 abbrev pub KeepsOpen : State → State → Type 0
@@ -275,12 +297,20 @@ KeepsOpen st done = AreLevel st.page.tokens done.page.tokens
 pub keeps_append : (c : Context) (ps : List Piece) (st : State) → EndAll ps → KeepsOpen st (append c ps st)
 keeps_append c ps st h = h.on_page c.quotes st.page
 
-page_if : (b : Bool) (x y : State) (p : Page) → x.page ≡ p → y.page ≡ p → (if b then x else y).page ≡ p
+pub page_if : (b : Bool) (x y : State) (p : Page) → x.page ≡ p → y.page ≡ p → (if b then x else y).page ≡ p
 page_if true x y p e f = e
 page_if false x y p e f = f
 
+-- what is remembered of what was printed in a substitute changes no page
+pub page_printed : (v : Variable) (st : State) → (with_printed v st).page ≡ st.page
+page_printed v st =
+    page_if st.is_published (record st { printed = with_variable st.printed v }) (record st { suppressed = with_variable st.suppressed v }) st.page refl refl
+
+pub page_standing : (st : State) → (standing st).page ≡ st.page
+page_standing st = page_if st.is_published (record st { suppressed = st.printed }) st st.page refl refl
+
 page_suppressing : (s : NodeSetting) (v : Variable) (st : State) → (suppressing s v st).page ≡ st.page
-page_suppressing s v st = page_if s.in_substitute (record st { suppressed = with_variable st.suppressed v }) st st.page refl refl
+page_suppressing s v st = page_if s.in_substitute (with_printed v st) st st.page (page_printed v st) refl
 
 page_using : (c : Context) (v : Variable) (st : State) → (using c v st).page ≡ st.page
 page_using c v st =
@@ -304,6 +334,7 @@ keeps_leaf c s (nodes.number n) st = keeps_after c s n.variable (number_pieces c
 keeps_leaf c s (nodes.label v look) st = keeps_append c (label_pieces c s v look) st (ends_label c s v look)
 keeps_leaf c s (nodes.date d) st =
     let answer = date_answer c st.suppressed d.variable in
-    let ps = day_pieces c s st.has_date d answer in
+    let is_later = is_passed_over c d st || st.has_date in
+    let ps = day_pieces c s is_later d answer in
     level_to st.page.tokens (append c ps st).page (suppressing s (variables.Date d.variable) (append c ps st)).page
-    (page_suppressing s (variables.Date d.variable) (append c ps st)) (keeps_append c ps st (ends_day c s st.has_date d answer))
+    (page_suppressing s (variables.Date d.variable) (append c ps st)) (keeps_append c ps st (ends_day c s is_later d answer))

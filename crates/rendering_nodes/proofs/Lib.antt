@@ -17,3 +17,5 @@ pub mod LocatorsLacked
 pub mod FindingsKnown
 pub mod FindingsSteps
 pub mod FindingsAppended
+pub mod LeftOutSteps
+pub mod LeftOpenHolds

@@ -36,7 +36,7 @@ pub no_locator : (c : Context) (suppressed : List Variable) (form : LongShortFor
 no_locator c suppressed form none =
     missing_by (is_among suppressed locator) (answer_of c form (asked_for c locator))
     (ap (λ (v : Variable). is_missing (answer_of c form v)) (asked_itself c.is_bibliography c.properties.identifier_usage)
-    ∙ ap (λ (l : Option cites.SpecificLocator). is_missing (or_no_answer (of_locator c.page_ranges) l)) none)
+    ∙ ap (λ (l : Option cites.SpecificLocator). is_missing (or_no_answer (of_locator c.page_ranges c.is_published) l)) none)
 
 -- what has no answer is not printed
 pub missing_never : (a b : Bool) → a ≡ true → false ≡ (not a && b)

@@ -1,11 +1,10 @@
 -- What a node that is opened appends, by what the functions for its kind append.
-use Rattle.std.proofs.Common.{◌≡◌, ℕ, suc, ◌-◌, ◌≢◌, true, List, [], map, Vec, Result, Option, None, sym, ap, ◌∙◌}
+use Rattle.std.proofs.Common.{◌≡◌, ℕ, suc, ◌-◌, ◌≢◌, true, List, [], map, Vec, Result, Option, sym, ap, ◌∙◌}
 use Rattle.std.specs.Global.{Global}
 use Rattle.std.specs.Prelude.{OnOk, IfOk, String, string_bytes}
 use Rattle.std.proofs.lemmas.Result.{IfOk-weaker, on_ok_weaker}
 use Rattle.rendering_context.specs.Contexts.{Context}
 use Rattle.rendering_leaves.specs.NodeSettings.{NodeSetting, State}
-use Rattle.rendering_leaves.specs.Values.{frame}
 use Rattle.rendering_style.specs.Nodes as nodes
 use Rattle.rendering_style.specs.Nodes.{Nodes, NamesNode}
 use Rattle.rendering_style.specs.Styles.{Macro}
@@ -19,7 +18,7 @@ use Rattle.rendering_style.specs.declared.node.Names.{Names}
 use Rattle.rendering_style.specs.declared.node.TextTarget.{TextTarget}
 use Rattle.rendering_style.specs.declared.node.TextTarget.TheVariants as targets
 use Rattle.rendering_nodes.specs.Admission.{Stage, Survey, surveys}
-use Rattle.rendering_nodes.specs.Content.{content, contents, entered, inside_group, left}
+use Rattle.rendering_nodes.specs.Content.{content, contents, entered, group_frame, inside_group, left}
 use Rattle.rendering_nodes.specs.Findings.{Asked, all_asked}
 use Rattle.rendering_nodes.specs.declared.finding.Finding.{Finding}
 use Rattle.rendering_nodes.proofs.OpenedSteps.{open_names, open_choose, open_group, opened_all}
@@ -71,13 +70,13 @@ macro_appended r c o s st new n ms look y w bs is same =
 
 -- a group: its element begins, its nodes follow, its element ends
 pub grouped_appended : {T E : Type 0} (r : Result T E) (c : Context) (o : Option NamesNode) (s inside : NodeSetting) (st begun done new : State) (g : nodes.GroupNode) (xs : Nodes)
-    → begun ≡ entered c (frame s.manner None g.look) [] st
+    → begun ≡ entered c (group_frame s g) [] st
     → inside ≡ inside_group s g
     → done ≡ contents c inside true xs begun
-    → OnOk r (new ≡ left c (frame s.manner None g.look) [] done)
+    → OnOk r (new ≡ left c (group_frame s g) [] done)
     → OnOk r (new ≡ content c o s (nodes.group g xs) st)
 grouped_appended r c o s inside st begun done new g xs begins same follow =
-    let ends : State → State = left c (frame s.manner None g.look) [] in
+    let ends : State → State = left c (group_frame s g) [] in
     on_ok_weaker r
     (λ (e : new ≡ ends done). e ∙ ap ends (follow ∙ (ap (λ (i : NodeSetting). contents c i true xs begun) same ∙ ap (contents c (inside_group s g) true xs) begins)))
 

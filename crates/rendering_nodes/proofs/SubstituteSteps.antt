@@ -13,7 +13,7 @@ use Rattle.rendering_style.specs.Nodes as nodes
 use Rattle.rendering_style.specs.Nodes.{NamesNode, Nodes}
 use Rattle.rendering_taxonomy.specs.declared.variable.Variable.{Variable}
 use Rattle.rendering_tree.specs.Metas as metas
-use Rattle.rendering_nodes.specs.Content.{content, entered, first_substitute, inside_names, left, names_or_substitute, append_people, taken, tried}
+use Rattle.rendering_nodes.specs.Content.{content, entered, first_substitute, inside_names, left, names_in, names_or_substitute, append_people, taken, tried}
 use Rattle.rendering_nodes.specs.Turns.{asked, attempt, is_next, settled, append_substitute, is_substitute, substituted}
 
 -- the people of a names node, by variables that are the same
@@ -24,20 +24,22 @@ people_as c h sup people st e is = is ∙ ap (λ vs. all_people c vs h.variables
 -- names without people
 pub names_without : (c : Context) (s : NodeSetting) (h : NamesNode) (xs : Nodes) (sup : List Variable) (people : List Answered) (n : ℕ) (b : Bool) (st new : State)
     → sup ≡ st.suppressed → all_lent_answered_view people ≡ all_people c sup h.variables → n ≡ length people → b ≡ eqb n 0 → b ≡ true
-    → new ≡ substituted c s h xs st → new ≡ content c None s (nodes.names h xs) st
+    → new ≡ substituted c s (names_in s.form h) xs st → new ≡ content c None s (nodes.names h xs) st
 names_without c s h xs sup [] n b st new e is count test so append =
-    append ∙ ap (λ ps. names_or_substitute c s h (first_substitute c h (inside_names s h) xs) ps st) (people_as c h sup (all_lent_answered_view []) st e is)
+    let own = names_in s.form h in
+    append ∙ ap (λ ps. names_or_substitute c s own (first_substitute c own (inside_names s own) xs) ps st) (people_as c h sup (all_lent_answered_view []) st e is)
 names_without c s h xs sup (p ∷ ps) n b st new e is count test so append = absurd (suc-ne-zero (length ps) (sym count ∙ eqb-true n 0 (sym test ∙ so)))
 
 -- names with people
 pub names_with : (c : Context) (s : NodeSetting) (h : NamesNode) (xs : Nodes) (sup : List Variable) (people shown : List Answered) (n : ℕ) (b : Bool) (st new : State)
     → sup ≡ st.suppressed → all_lent_answered_view people ≡ all_people c sup h.variables → n ≡ length people → b ≡ eqb n 0 → b ≡ false → shown ≡ people
-    → new ≡ append_people c s h (all_lent_answered_view shown) st → new ≡ content c None s (nodes.names h xs) st
+    → new ≡ append_people c s (names_in s.form h) (all_lent_answered_view shown) st → new ≡ content c None s (nodes.names h xs) st
 names_with c s h xs sup [] shown n b st new e is count test so one append = absurd (false≢true (sym so ∙ (test ∙ ap (λ (m : ℕ). eqb m 0) count)))
 names_with c s h xs sup (p ∷ ps) shown n b st new e is count test so one append =
+    let own = names_in s.form h in
     append
-    ∙ ap (λ qs. append_people c s h (all_lent_answered_view qs) st) one
-    ∙ ap (λ qs. names_or_substitute c s h (first_substitute c h (inside_names s h) xs) qs st) (people_as c h sup (all_lent_answered_view (p ∷ ps)) st e is)
+    ∙ ap (λ qs. append_people c s own (all_lent_answered_view qs) st) one
+    ∙ ap (λ qs. names_or_substitute c s own (first_substitute c own (inside_names s own) xs) qs st) (people_as c h sup (all_lent_answered_view (p ∷ ps)) st e is)
 
 -- names that are completed are of the same variables
 completed_if : (b : Bool) (h g : NamesNode) → g.variables ≡ h.variables → (if b then h else g).variables ≡ h.variables
@@ -55,7 +57,8 @@ pub taken_content : (c : Context) (outer : Option NamesNode) (s : NodeSetting) (
     → content c None s (nodes.names (taken outer h) xs) st ≡ content c outer s (nodes.names h xs) st
 taken_content c None s h xs st = refl
 taken_content c (Some o) s h xs st =
-    ap (λ vs. names_or_substitute c s (completed o h) (first_substitute c (completed o h) (inside_names s (completed o h)) xs) (all_people c st.suppressed vs) st) (completed_variables o h)
+    let own = names_in s.form (completed o h) in
+    ap (λ vs. names_or_substitute c s own (first_substitute c own (inside_names s own) xs) (all_people c st.suppressed vs) st) (completed_variables o h)
 
 -- names by their parts
 pub names_by : (c : Context) (outer : Option NamesNode) (s : NodeSetting) (h g : NamesNode) (xs : Nodes) (st new : State) → g ≡ taken outer h

@@ -12,8 +12,8 @@ use Rattle.rendering_context.specs.Contexts.{Context}
 use Rattle.rendering_leaves.specs.NodeSettings.{noted}
 use Rattle.rendering_context.specs.Answering.{no_answer, is_missing, answer_of, asked_for, exchanged_for, answer_to, people_answer, with_people, all_people}
 use Rattle.rendering_context.specs.Choosing.{is_met}
-use Rattle.rendering_nodes.specs.Admission.{Survey, Stage, variable_survey, allows_variable, allows_date, excludes, names_survey, leaf_survey, survey, surveys, branch_survey}
-use Rattle.rendering_nodes.specs.Content.{stage, content, delimited}
+use Rattle.rendering_nodes.specs.Admission.{Survey, Stage, variable_survey, allows_variable, allows_date, is_shut_out, names_survey, leaf_survey, survey, surveys, branch_survey}
+use Rattle.rendering_nodes.specs.Content.{stage, content, delimited_node}
 use Rattle.rendering_nodes.specs.Named.{named_in_leaf, named_in_tests, named_in, named, named_in_branches, is_word_leaf, has_words_in, has_words, has_words_in_branches}
 use Rattle.rendering_nodes.specs.Laws.{HasNoAnswer, UnansweredGroupsAddNothing}
 use Rattle.rendering_taxonomy.specs.Variables.{is_among}
@@ -104,8 +104,8 @@ mutual
   out_of s (opened look xs) w h = all_out s xs w h
   out_of s (names hd xs) w h =
       let here = map (λ v. variables.Name v) hd.variables in
-      ap (λ b. (names_survey s hd b (surveys s xs)).is_admitted) (ap is_filled (nobody s.context s.suppressed hd.variables (left_without s.context here (named xs).variables h)))
-      ∙ without_people (excludes s.form hd) (surveys s xs) (all_out s xs w (right_without s.context here (named xs).variables h))
+      ap (λ b. (names_survey s hd b (is_shut_out s hd xs) (surveys s xs)).is_admitted) (ap is_filled (nobody s.context s.suppressed hd.variables (left_without s.context here (named xs).variables h)))
+      ∙ without_people (is_shut_out s hd xs) (surveys s xs) (all_out s xs w (right_without s.context here (named xs).variables h))
   out_of s (choose bs) w h = branches_out s bs w h
   out_of s (group g xs) w h = ap (λ b. b && not ((surveys s xs).calls && not (surveys s xs).is_answered)) (all_out s xs w h)
 
@@ -129,4 +129,4 @@ mutual
 pub unanswered_groups : UnansweredGroupsAddNothing
 unanswered_groups c s first g xs st w h =
     let asked = survey (stage c s st) (group g xs) in
-    ap (λ b. (if b then content c None s (group g xs) (delimited c s first (noted asked.met st)) else noted asked.met st).page) (out_of (stage c s st) (group g xs) w h)
+    ap (λ b. (if b then delimited_node c s first (content c None s (group g xs)) (noted asked.met st) else noted asked.met st).page) (out_of (stage c s st) (group g xs) w h)

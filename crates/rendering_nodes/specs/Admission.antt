@@ -1,5 +1,5 @@
 -- Which nodes are admitted: those that have something to print and are not excluded.
-use Rattle.std.specs.Prelude.{Bool, true, false, not, ◌&&◌, ◌||◌, List, if◌then◌else◌}
+use Rattle.std.specs.Prelude.{Bool, true, false, not, ◌&&◌, ◌||◌, List, [], if◌then◌else◌}
 use Rattle.std.specs.List.{list_any}
 use Rattle.std.specs.Option.{option_map_or}
 use Rattle.laws.specs.Text.{is_filled}
@@ -8,7 +8,7 @@ use Rattle.rendering_locale.specs.Lookup.{term_text}
 use Rattle.rendering_style.specs.Nodes.{TextSource, of_variable, of_term, of_value, TextLook, NumberNode, DateNode, NamesNode, Leaf, Node, Nodes, Branches, leaf, call, opened, names, choose, group, no_nodes, node, otherwise, branch}
 use Rattle.rendering_style.specs.Nodes as nodes
 use Rattle.rendering_context.specs.Contexts.{Context}
-use Rattle.rendering_leaves.specs.NodeSettings.{SpecialForm, whole, author_only, without_author, first_date_only, suffix_only}
+use Rattle.rendering_leaves.specs.NodeSettings.{SpecialForm, whole, author_only, without_author, first_date_only, suffix_only, authors_alone, without_names}
 use Rattle.rendering_context.specs.Answering.{answer_to, is_missing, date_answer, all_people}
 use Rattle.rendering_context.specs.Choosing.{is_met, asks_disambiguate}
 use Rattle.rendering_taxonomy.specs.declared.date.LongShortForm.TheVariants as lengths
@@ -71,6 +71,8 @@ allows_variable (author_only a) v = false
 allows_variable without_author v = true
 allows_variable first_date_only v = is_with_suffix v
 allows_variable suffix_only v = is_with_suffix v
+allows_variable (authors_alone a) v = false
+allows_variable (without_names a) v = true
 
 -- whether a form allows words of the style
 abbrev pub allows_words : SpecialForm → Bool
@@ -79,6 +81,8 @@ allows_words (author_only a) = false
 allows_words without_author = true
 allows_words first_date_only = false
 allows_words suffix_only = false
+allows_words (authors_alone a) = false
+allows_words (without_names a) = true
 
 -- Whether a form allows a date: the first one, where the first alone is wanted; and where the year suffix alone is, the first one, whose
 -- suffix it is if the style does not print it by itself.
@@ -88,6 +92,8 @@ allows_date c has_date (author_only a) = false
 allows_date c has_date without_author = true
 allows_date c has_date first_date_only = not has_date
 allows_date c has_date suffix_only = not has_date && not c.has_suffix_node
+allows_date c has_date (authors_alone a) = false
+allows_date c has_date (without_names a) = true
 
 -- whether it is asked in a form if the first date was printed
 abbrev pub asks_for_date : SpecialForm → Bool
@@ -96,6 +102,8 @@ asks_for_date (author_only a) = false
 asks_for_date without_author = false
 asks_for_date first_date_only = true
 asks_for_date suffix_only = true
+asks_for_date (authors_alone a) = false
+asks_for_date (without_names a) = false
 
 -- whether a variable is among those of a names node
 abbrev pub is_of : NameVariable → NamesNode → Bool
@@ -108,11 +116,8 @@ allows_names (author_only v) h = is_of v h
 allows_names without_author h = not (is_of name.Author h)
 allows_names first_date_only h = false
 allows_names suffix_only h = false
-
--- whether a form excludes names with all of their substitute
-abbrev pub excludes : SpecialForm → NamesNode → Bool
-excludes without_author h = is_of name.Author h
-excludes form h = false
+allows_names (authors_alone v) h = is_of v h
+allows_names (without_names v) h = not (is_of v h)
 
 -- How far a call has come: what it prints from and in which form, whether the first date was printed, and which variables are not printed again.
 pub record Stage : Type 0 where
@@ -138,14 +143,35 @@ leaf_survey s (nodes.number n) = variable_survey (is_there s n.variable && allow
 leaf_survey s (nodes.label v look) = words_survey (is_there s v && allows_variable s.form v)
 leaf_survey s (nodes.date d) = variable_survey (option_map_or (λ day. true) (date_answer s.context s.suppressed d.variable) false && allows_date s.context s.has_date s.form)
 
--- What is asked of names: of themselves where they have people, else of all of their substitute.
-abbrev pub names_survey : Stage → NamesNode → Bool → Survey → Survey
-names_survey s h true inside = variable_survey (allows_names s.form h)
-names_survey s h false inside = if excludes s.form h then variable_survey false else record inside { calls = true }
+-- What is asked of names: of themselves where they have people, else of all of their substitute, unless that is shut out.
+abbrev pub names_survey : Stage → NamesNode → Bool → Bool → Survey → Survey
+names_survey s h true is_shut_out inside = variable_survey (allows_names s.form h)
+names_survey s h false is_shut_out inside = if is_shut_out then variable_survey false else record inside { calls = true }
 
 -- whether one of their variables has people
 abbrev pub has_people : Stage → NamesNode → Bool
 has_people s h = is_filled (all_people s.context s.suppressed h.variables)
+
+-- whether a node is names of a variable that have people, printed before or not
+abbrev pub stands_for_names : Context → NameVariable → Node → Bool
+stands_for_names c v (names h xs) = is_of v h && is_filled (all_people c [] h.variables)
+stands_for_names c v x = false
+
+-- whether one of the nodes is
+abbrev pub stand_for_names : Context → NameVariable → Nodes → Bool
+stand_for_names c v no_nodes = false
+stand_for_names c v (node x xs) = stands_for_names c v x || stand_for_names c v xs
+
+-- Whether a form shuts the substitute of names out: of names that it leaves out, and in a published style of those for which such names
+-- would stand too.
+abbrev pub is_shut_out_by : SpecialForm → Context → NamesNode → Nodes → Bool
+is_shut_out_by without_author c h xs = is_of name.Author h
+is_shut_out_by (without_names v) c h xs = is_of v h || stand_for_names c v xs
+is_shut_out_by form c h xs = false
+
+-- whether the substitute of names is shut out
+abbrev pub is_shut_out : Stage → NamesNode → Nodes → Bool
+is_shut_out s h xs = is_shut_out_by s.form s.context h xs
 
 -- a group prints nothing where it calls variables and none has an answer
 abbrev pub group_survey : Survey → Survey
@@ -157,7 +183,7 @@ abbrev mutual
   survey s (leaf l) = leaf_survey s l
   survey s (call name look) = nothing
   survey s (opened look xs) = let inside = surveys s xs in containing inside.is_admitted inside
-  survey s (names h xs) = names_survey s h (has_people s h) (surveys s xs)
+  survey s (names h xs) = names_survey s h (has_people s h) (is_shut_out s h xs) (surveys s xs)
   survey s (choose bs) = branch_survey s bs
   survey s (group g xs) = group_survey (surveys s xs)
 

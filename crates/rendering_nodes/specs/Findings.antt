@@ -1,11 +1,11 @@
 -- What surveys find of nodes, node by node in the order in which they are printed, so that no node is asked twice.
 use Rattle.std.specs.Prelude.{◌≡◌, Bool, true, false, List, [], ◌∷◌, ◌++◌, length, if◌then◌else◌, ⊤}
-use Rattle.rendering_style.specs.Nodes.{NamesNode, Node, Nodes, Branches, leaf, call, opened, names, choose, group, no_nodes, node, otherwise, branch}
+use Rattle.rendering_style.specs.Nodes.{Node, Nodes, Branches, leaf, call, opened, names, choose, group, no_nodes, node, otherwise, branch}
 use Rattle.rendering_context.specs.Contexts.{Context}
 use Rattle.rendering_context.specs.Choosing.{is_met}
 use Rattle.rendering_leaves.specs.NodeSettings.{SpecialForm, State}
 use Rattle.rendering_leaves.specs.NodeSettings as settings
-use Rattle.rendering_nodes.specs.Admission.{Survey, Stage, has_people, excludes, survey, surveys}
+use Rattle.rendering_nodes.specs.Admission.{Survey, Stage, has_people, is_shut_out, survey, surveys}
 use Rattle.rendering_nodes.specs.Content.{stage}
 use Rattle.rendering_nodes.specs.declared.finding.Finding.{Finding}
 use Rattle.rendering_nodes.specs.declared.finding.Findings.{Findings}
@@ -22,10 +22,10 @@ with_finding v inside = record { is_admitted = v.is_admitted; met = v.met; insid
 abbrev pub nothing_found : Finding
 nothing_found = record { is_admitted = false; met = false; inside = 0 }
 
--- nothing is asked of a substitute where there are people, nor where names are excluded
-abbrev pub beside_people : Stage → NamesNode → Bool → List Finding → List Finding
-beside_people s h true substitutes = []
-beside_people s h false substitutes = if excludes s.form h then [] else substitutes
+-- nothing is asked of a substitute where there are people, nor where it is shut out
+abbrev pub beside_people : Bool → Bool → List Finding → List Finding
+beside_people true is_shut_out substitutes = []
+beside_people false is_shut_out substitutes = if is_shut_out then [] else substitutes
 
 abbrev mutual
   -- what is found of the nodes inside a node
@@ -33,7 +33,7 @@ abbrev mutual
   found_inside s (leaf l) = []
   found_inside s (call name look) = []
   found_inside s (opened look xs) = found s xs
-  found_inside s (names h xs) = beside_people s h (has_people s h) (found s xs)
+  found_inside s (names h xs) = beside_people (has_people s h) (is_shut_out s h xs) (found s xs)
   found_inside s (choose bs) = branch_found s bs
   found_inside s (group g xs) = found s xs
 

@@ -7,7 +7,7 @@ use Rattle.rendering_context.specs.Contexts.{Context}
 use Rattle.rendering_leaves.specs.NodeSettings.{NodeSetting, State}
 use Rattle.rendering_context.specs.Answering.{no_answer, answer_of, asked_for}
 use Rattle.rendering_nodes.specs.Content.{contents}
-use Rattle.rendering_nodes.specs.Named.{AreAlike, joined_named, always_named, named, has_words}
+use Rattle.rendering_nodes.specs.Named.{AreAlike, as_printed, joined_named, always_named, named, has_words}
 use Rattle.rendering_taxonomy.specs.declared.date.LongShortForm.{LongShortForm}
 use Rattle.rendering_taxonomy.specs.declared.variable.Variable.{Variable}
 use Rattle.rendering_taxonomy.specs.declared.variable.Variable.TheVariants as variables
@@ -33,9 +33,10 @@ UnansweredGroupsAddNothing =
 abbrev pub with_answers : Answers → Context → Context
 with_answers a c = record c { answers = a }
 
--- Entries that answer alike to all that nodes name, and to what every style names, print alike.
+-- Entries that answer alike to all that nodes name, and to what every style names, print alike: in a published style where numbers and
+-- pages were written alike too.
 abbrev pub AlikeEntriesPrintAlike : Type 0
 AlikeEntriesPrintAlike =
     (a b : Answers) (c : Context) (s : NodeSetting) (first : Bool) (xs : Nodes) (st : State)
-    → AreAlike (joined_named always_named (named xs)) a b
+    → AreAlike (as_printed c.is_published (joined_named always_named (named xs))) a b
     → contents (with_answers a c) s first xs st ≡ contents (with_answers b c) s first xs st

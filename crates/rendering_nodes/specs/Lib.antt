@@ -6,3 +6,4 @@ pub mod Laws
 pub mod Taken
 pub mod Turns
 pub mod Views
+pub mod LeftOpen

@@ -1,5 +1,5 @@
 -- What a style names of entries, and when two entries answer alike to it.
-use Rattle.std.specs.Prelude.{◌≡◌, Bool, true, false, ◌||◌, List, [], ◌∷◌, ◌++◌, map, Contains}
+use Rattle.std.specs.Prelude.{◌≡◌, Bool, true, false, ◌||◌, List, [], ◌∷◌, ◌++◌, map, if◌then◌else◌, Contains}
 use Rattle.rendering_entries.specs.Answers.{Answers}
 use Rattle.rendering_style.specs.Nodes.{TextSource, of_variable, of_term, of_value, Test, Condition, Leaf, Node, Nodes, Branches, leaf, call, opened, names, choose, group, no_nodes, node, otherwise, branch}
 use Rattle.rendering_style.specs.Nodes as nodes
@@ -7,31 +7,50 @@ use Rattle.rendering_nodes.specs.Admission.{is_suffix_variable}
 use Rattle.rendering_taxonomy.specs.declared.date.LongShortForm.{LongShortForm}
 use Rattle.rendering_taxonomy.specs.declared.kind.Kind.{Kind}
 use Rattle.rendering_taxonomy.specs.declared.variable.DateVariable.TheVariants as date
+use Rattle.rendering_taxonomy.specs.declared.variable.NameVariable.{NameVariable}
 use Rattle.rendering_taxonomy.specs.declared.variable.NameVariable.TheVariants as name
 use Rattle.rendering_taxonomy.specs.declared.variable.StandardVariable.TheVariants as standard
 use Rattle.rendering_taxonomy.specs.declared.variable.Variable.{Variable}
 use Rattle.rendering_taxonomy.specs.declared.variable.Variable.TheVariants as variables
 
--- variables and kinds
+-- variables, kinds, and variables of which it counts how they were written
 pub record Named : Type 0 where
   pub variables : List Variable
   pub kinds : List Kind
+  pub written : List Variable
 
 -- no variable and no kind
 abbrev pub none_named : Named
-none_named = record { variables = []; kinds = [] }
+none_named = record { variables = []; kinds = []; written = [] }
 
 -- one variable
 abbrev pub variable_named : Variable → Named
-variable_named v = record { variables = v ∷ []; kinds = [] }
+variable_named v = record { variables = v ∷ []; kinds = []; written = [] }
 
 -- all that two name
 abbrev pub joined_named : Named → Named → Named
-joined_named a b = record { variables = a.variables ++ b.variables; kinds = a.kinds ++ b.kinds }
+joined_named a b = record {
+  variables = a.variables ++ b.variables;
+  kinds = a.kinds ++ b.kinds;
+  written = a.written ++ b.written;
+}
+
+-- the same, where it counts how numbers and pages were written, or does not
+abbrev pub as_printed : Bool → Named → Named
+as_printed is_published n = record n { written = if is_published then n.variables else [] }
+
+-- the people of variables
+abbrev pub people_named : List NameVariable → Named
+people_named vs =
+    record { variables = map (λ v. variables.Name v) vs; kinds = []; written = [] }
+
+-- one kind
+abbrev pub kind_named : Kind → Named
+kind_named k = record { variables = []; kinds = k ∷ []; written = [] }
 
 -- what a test names
 abbrev pub named_in_test : Test → Named
-named_in_test (nodes.is_of_kind k) = record { variables = []; kinds = k ∷ [] }
+named_in_test (nodes.is_of_kind k) = kind_named k
 named_in_test (nodes.has_answer v) = variable_named v
 named_in_test (nodes.is_numeric v) = variable_named v
 named_in_test (nodes.is_uncertain v) = variable_named (variables.Date v)
@@ -61,7 +80,7 @@ abbrev mutual
   named_in (leaf l) = named_in_leaf l
   named_in (call name look) = none_named
   named_in (opened look xs) = named xs
-  named_in (names h xs) = joined_named (record { variables = map (λ v. variables.Name v) h.variables; kinds = [] }) (named xs)
+  named_in (names h xs) = joined_named (people_named h.variables) (named xs)
   named_in (choose bs) = named_in_branches bs
   named_in (group g xs) = named xs
 
@@ -84,6 +103,7 @@ always_named = record {
       ∷ variables.Date date.EventDate ∷ variables.Date date.Submitted ∷ variables.Date date.OriginalDate
       ∷ variables.Standard standard.CitationLabel ∷ [];
   kinds = [];
+  written = [];
 }
 
 -- two entries answer one variable alike, in all forms
@@ -94,9 +114,10 @@ AnswerAlike a b variables.Page = a.pages ≡ b.pages
 AnswerAlike a b (variables.Name v) = a.people v ≡ b.people v
 AnswerAlike a b (variables.Date v) = a.date v ≡ b.date v
 
--- two entries answer alike to all that is named, and to whether they are in English
+-- two entries answer alike to all that is named, as it was written where that counts, and to whether they are in English
 pub record AreAlike (n : Named) (a b : Answers) : Type 0 where
   pub variables : (v : Variable) → Contains n.variables v → AnswerAlike a b v
+  pub written : (v : Variable) → Contains n.written v → a.written v ≡ b.written v
   pub kinds : (k : Kind) → Contains n.kinds k → a.kind k ≡ b.kind k
   pub english : a.english ≡ b.english
 

@@ -6,7 +6,7 @@ use Rattle.rendering_names.specs.Names.{names_frame}
 use Rattle.rendering_context.specs.Contexts.{Context}
 use Rattle.rendering_leaves.specs.NodeSettings.{NodeSetting, State, noted}
 use Rattle.rendering_nodes.specs.Admission.{survey}
-use Rattle.rendering_nodes.specs.Content.{accepted, content, delimited, entered, first_substitute, inside_names, left, stage, tried}
+use Rattle.rendering_nodes.specs.Content.{accepted, content, delimited_frame, delimited_node, entered, first_substitute, inside_names, left, stage, tried}
 
 -- whether a node is admitted
 abbrev pub is_next : Context → NodeSetting → Node → State → Bool
@@ -18,7 +18,11 @@ asked c s x st = noted (survey (stage c s st) x).met st
 
 -- a node that is appended if it is admitted, after the delimiter
 abbrev pub append_next : Context → NodeSetting → Bool → Node → State → State
-append_next c s is_first x st = if is_next c s x st then content c None s x (delimited c s is_first (asked c s x st)) else asked c s x st
+append_next c s is_first x st = if is_next c s x st then delimited_node c s is_first (content c None s x) (asked c s x st) else asked c s x st
+
+-- a node in an element with the delimiter of the group around before it
+abbrev pub in_delimited : Context → NodeSetting → Node → State → State
+in_delimited c s x st = left c (delimited_frame s st) [] (content c None s x (entered c (delimited_frame s st) [] st))
 
 -- the element of names with their substitute
 abbrev pub substituted : Context → NodeSetting → NamesNode → Nodes → State → State

@@ -9,7 +9,7 @@ ghost use Rattle.rendering_style.specs.Opening.{each_branch, each_node, macro_na
 ghost use Rattle.rendering_style.specs.Views.{branch_view, branches_of, names_node_view, node_view, nodes_view, text_node_view, text_look_view};
 
 use crate::finding::{Finding, push_nothing_found, put_finding};
-use crate::form_admission::{allows_names, excludes};
+use crate::form_admission::allows_names;
 use crate::leaf_surveys::Stage;
 use crate::survey::Survey;
 use rendering_entries::EntryLike;
@@ -140,7 +140,7 @@ impl<'a> Stage<'_, '_, 'a> {
         }
     }
 
-    /// Surveys names: themselves where they have people, else all of their substitute.
+    /// Surveys names: themselves where they have people, else all of their substitute, unless that is shut out.
     #[cycle(surveys)]
     fn survey_names<E: EntryLike>(
         &self,
@@ -158,7 +158,8 @@ impl<'a> Stage<'_, '_, 'a> {
         if self.has_people(entry, names)? {
             return Ok(Survey::of_variable(allows_names(self.form, names)));
         }
-        if excludes(self.form, names) {
+        let is_shut_out = self.is_shut_out(entry, levels, names, substitute)?;
+        if is_shut_out {
             return Ok(Survey::of_variable(false));
         }
         let inside = self.survey_all(entry, levels, substitute, findings)?;

@@ -7,17 +7,18 @@ ghost use Rattle.rendering_entries.specs.Answers.{Answers};
 ghost use Rattle.rendering_leaves.specs.NodeSettings.{noted};
 ghost use Rattle.rendering_leaves.specs.Views.{setting_view};
 ghost use Rattle.rendering_names.specs.Views.{names_parts_view};
-ghost use Rattle.rendering_nodes.specs.Content.{accepted, content, contents, first_substitute, tried};
+ghost use Rattle.rendering_nodes.specs.Content.{accepted, content, contents, delimited_node, first_substitute, tried};
 ghost use Rattle.rendering_nodes.specs.Findings.{AreFound, AreFoundInside, IsFound, IsKnown, IsSurveyed};
-ghost use Rattle.rendering_nodes.specs.Turns.{is_next, append_next, settled, append_substitute, is_substitute, substituted};
+ghost use Rattle.rendering_nodes.specs.Turns.{is_next, append_next, in_delimited, settled, append_substitute, is_substitute, substituted};
 ghost use Rattle.rendering_nodes.specs.Views.{macros_of, walk_context};
 ghost use Rattle.rendering_page.specs.Pages.{prints};
 ghost use Rattle.rendering_style.specs.Nodes as nodes;
 ghost use Rattle.rendering_style.specs.Opening.{each_branch, each_node, macro_named, open_node, part};
 ghost use Rattle.rendering_style.specs.Views.{branch_view, branches_of, group_node_view, node_view, nodes_view, text_node_view, text_look_view};
 
+use crate::elements::{delimited_frame, delimits_printed};
 use crate::finding::{Findings, Known, NodeFinding, Surveyed};
-use crate::inner_settings::{inside_group, inside_macro, inside_names, taken};
+use crate::inner_settings::{inside_group, inside_macro, inside_names, names_in, taken};
 use crate::style_walk::Walk;
 use rendering_entries::EntryLike;
 use rendering_leaves::{
@@ -128,9 +129,69 @@ impl<'a> Walk<'_, 'a> {
         if !finding.admits(state) {
             return Ok(false);
         }
-        self.push_delimiter(setting, is_first, state)?;
-        self.push_node(entry, setting, levels, None, node, finding.inside, state)?;
+        self.push_admitted(
+            entry,
+            setting,
+            levels,
+            is_first,
+            node,
+            finding.inside,
+            state,
+        )?;
         Ok(true)
+    }
+
+    /// Prints a node that is admitted, after the delimiter of the group around. In a published style both are removed if the node
+    /// prints nothing.
+    #[cycle(contents)]
+    fn push_admitted<E: EntryLike>(
+        &self,
+        entry: &'a E,
+        setting: &NodeSetting<'a>,
+        levels: usize,
+        is_first: bool,
+        node: &'a Node,
+        findings: Findings<'_>,
+        state: &mut State<'a>,
+    ) -> Result<(), AllocError>
+        requires { AreFoundInside (walk_context (E.answers entry.now) self.now)
+            (setting_view setting.now).form findings
+            (open_node levels (macros_of self.now) (node_view node.now)) }
+        ensures { OnOk result (state.new
+            ≡ delimited_node (walk_context (E.answers entry.now) self.now)
+            (setting_view setting.now) is_first
+            (content (walk_context (E.answers entry.now) self.now) None (setting_view setting.now)
+            (open_node levels (macros_of self.now) (node_view node.now))) state.old) }
+    {
+        if delimits_printed(setting, state) {
+            return self.push_delimited(entry, setting, levels, node, findings, state);
+        }
+        self.push_delimiter(setting, is_first, state)?;
+        self.push_node(entry, setting, levels, None, node, findings, state)
+    }
+
+    /// Prints a node in an element with the delimiter of the group around before it, which is removed if the node prints nothing.
+    #[cycle(contents)]
+    fn push_delimited<E: EntryLike>(
+        &self,
+        entry: &'a E,
+        setting: &NodeSetting<'a>,
+        levels: usize,
+        node: &'a Node,
+        findings: Findings<'_>,
+        state: &mut State<'a>,
+    ) -> Result<(), AllocError>
+        requires { AreFoundInside (walk_context (E.answers entry.now) self.now)
+            (setting_view setting.now).form findings
+            (open_node levels (macros_of self.now) (node_view node.now)) }
+        ensures { OnOk result (state.new
+            ≡ in_delimited (walk_context (E.answers entry.now) self.now) (setting_view setting.now)
+            (open_node levels (macros_of self.now) (node_view node.now)) state.old) }
+    {
+        let frame = delimited_frame(setting, state);
+        self.begin_delimited(&frame, state)?;
+        self.push_node(entry, setting, levels, None, node, findings, state)?;
+        self.end_delimited(&frame, state)
     }
 
     /// What is known of a node, or else what a survey finds of it.
@@ -206,36 +267,21 @@ impl<'a> Walk<'_, 'a> {
         if levels == 0 {
             return Ok(());
         }
+        let inner = levels - 1;
         match node {
-            Node::Text(text) => self.push_text(entry, setting, levels - 1, text, findings, state),
+            Node::Text(text) => self.push_text(entry, setting, inner, text, findings, state),
             Node::Number(number) => push_number(&self.context, entry, setting, number, state),
             Node::Label(label) => push_label(&self.context, entry, setting, label, state),
             Node::Date(date) => push_date(&self.context, entry, setting, date, state),
             Node::Names(names, substitute) => {
                 let parts = taken(outer, names);
-                self.push_names(
-                    entry,
-                    setting,
-                    levels - 1,
-                    &parts,
-                    substitute,
-                    findings,
-                    state,
-                )
+                self.push_names(entry, setting, inner, &parts, substitute, findings, state)
             }
             Node::Choose(branches, otherwise) => {
-                self.push_choose(
-                    entry,
-                    setting,
-                    levels - 1,
-                    branches,
-                    otherwise,
-                    findings,
-                    state,
-                )
+                self.push_choose(entry, setting, inner, branches, otherwise, findings, state)
             }
             Node::Group(group, children) => {
-                self.push_group(entry, setting, levels - 1, group, children, findings, state)
+                self.push_group(entry, setting, inner, group, children, findings, state)
             }
         }
     }
@@ -381,10 +427,11 @@ impl<'a> Walk<'_, 'a> {
         let people = self
             .context
             .people(entry, state.suppressed.as_slice(), parts.variables)?;
+        let own = names_in(setting, parts);
         if people.is_empty() {
-            return self.push_substitute(entry, setting, levels, parts, substitute, findings, state);
+            return self.push_substitute(entry, setting, levels, &own, substitute, findings, state);
         }
-        self.push_people(setting, parts, people.as_slice(), state)
+        self.push_people(setting, &own, people.as_slice(), state)
     }
 
     /// Prints the element of names, with their substitute.
@@ -557,13 +604,14 @@ impl<'a> Walk<'_, 'a> {
         Ok(true)
     }
 
-    /// Ends the element of what was tried.
+    /// Ends the element of what was tried: the substitute stands.
     fn ended(&self, setting: &NodeSetting<'a>, done: State<'a>) -> Result<State<'a>, AllocError>
         ensures { (a : Answers) → IfOk result (λ s. s
             ≡ accepted (walk_context a self.now) (setting_view setting.now) done.entry) }
     {
         let mut done = done;
         self.end_bare(setting, &mut done)?;
+        done.stand()?;
         Ok(done)
     }
 }

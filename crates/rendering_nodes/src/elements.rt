@@ -1,24 +1,25 @@
 //! Where elements begin and end, and what stands between nodes.
 
-ghost use Rattle.std.specs.Prelude.{◌≡◌, ◌∷◌, [], None, Some, OnOk};
+ghost use Rattle.std.specs.Prelude.{◌≡◌, [], None, is_some, if◌then◌else◌, OnOk};
+ghost use Rattle.std.specs.Option.{unwrap_or};
+ghost use Rattle.laws.specs.Text.{spelled};
 ghost use Rattle.rendering_entries.specs.Answers.{Answers};
 ghost use Rattle.rendering_leaves.specs.Values.{frame, quote_after, quote_before, text_manner};
 ghost use Rattle.rendering_leaves.specs.Views.{setting_view};
 ghost use Rattle.rendering_names.specs.Names.{names_frame};
 ghost use Rattle.rendering_names.specs.Views.{names_parts_view};
-ghost use Rattle.rendering_nodes.specs.Content.{accepted, bare, delimited, entered, left, tried};
+ghost use Rattle.rendering_nodes.specs.Content.{bare, delimited, delimited_frame, delimits_printed, entered, group_frame, left, look_in, macro_frame, tried};
 ghost use Rattle.rendering_nodes.specs.Views.{walk_context};
 ghost use Rattle.rendering_page.specs.Views.{frame_view};
-ghost use Rattle.rendering_style.specs.Views.{group_node_view, text_look_view};
-ghost use Rattle.rendering_tree.specs.Metas as metas;
+ghost use Rattle.rendering_style.specs.Views.{group_node_view, look_view, text_look_view};
 
 use crate::style_walk::Walk;
 use rendering_leaves::{
-    NodeSetting, State, frame_of, push_quote_after, push_quote_before, text_manner,
+    NodeSetting, SpecialForm, State, frame_of, push_quote_after, push_quote_before, text_manner,
 };
-use rendering_names::NamesParts;
+use rendering_names::{NamesParts, names_frame};
 use rendering_page::Frame;
-use rendering_style::{Group, TextLook};
+use rendering_style::{Group, Look, TextLook};
 use rendering_tree::ElemMeta;
 use std::alloc::AllocError;
 use texts::no_text;
@@ -51,12 +52,12 @@ impl<'a> Walk<'_, 'a> {
         look: &'a TextLook,
         state: &mut State<'a>,
     ) -> Result<(), AllocError>
-        ensures { (a : Answers) → OnOk result (state.new ≡ entered (walk_context a self.now) (frame
-            (setting_view setting.now).manner (Some metas.Text) (text_look_view look.now).look)
+        ensures { (a : Answers) → OnOk result (state.new ≡ entered (walk_context a self.now)
+            (macro_frame (setting_view setting.now) (text_look_view look.now))
             (quote_before (walk_context a self.now) (text_manner (setting_view setting.now).manner
             (text_look_view look.now)) look.now.quotes setting.now.inside_quotes) state.old) }
     {
-        let frame = frame_of(setting.manner, &look.look);
+        let frame = frame_in(setting, &look.look);
         let manner = text_manner(setting.manner, look);
         state.page.begin_element(&frame, ElemMeta::Text)?;
         push_quote_before(
@@ -75,12 +76,12 @@ impl<'a> Walk<'_, 'a> {
         look: &'a TextLook,
         state: &mut State<'a>,
     ) -> Result<(), AllocError>
-        ensures { (a : Answers) → OnOk result (state.new ≡ left (walk_context a self.now) (frame
-            (setting_view setting.now).manner (Some metas.Text) (text_look_view look.now).look)
+        ensures { (a : Answers) → OnOk result (state.new ≡ left (walk_context a self.now)
+            (macro_frame (setting_view setting.now) (text_look_view look.now))
             (quote_after (walk_context a self.now) (text_manner (setting_view setting.now).manner
             (text_look_view look.now)) look.now.quotes setting.now.inside_quotes) state.old) }
     {
-        let frame = frame_of(setting.manner, &look.look);
+        let frame = frame_in(setting, &look.look);
         let manner = text_manner(setting.manner, look);
         push_quote_after(
             &self.context,
@@ -99,10 +100,10 @@ impl<'a> Walk<'_, 'a> {
         group: &'a Group,
         state: &mut State<'a>,
     ) -> Result<(), AllocError>
-        ensures { (a : Answers) → OnOk result (state.new ≡ entered (walk_context a self.now) (frame
-            (setting_view setting.now).manner None (group_node_view group.now).look) [] state.old) }
+        ensures { (a : Answers) → OnOk result (state.new ≡ entered (walk_context a self.now)
+            (group_frame (setting_view setting.now) (group_node_view group.now)) [] state.old) }
     {
-        let frame = frame_of(setting.manner, &group.look);
+        let frame = frame_in(setting, &group.look);
         state.page.begin(&frame)
     }
 
@@ -113,10 +114,10 @@ impl<'a> Walk<'_, 'a> {
         group: &'a Group,
         state: &mut State<'a>,
     ) -> Result<(), AllocError>
-        ensures { (a : Answers) → OnOk result (state.new ≡ left (walk_context a self.now) (frame
-            (setting_view setting.now).manner None (group_node_view group.now).look) [] state.old) }
+        ensures { (a : Answers) → OnOk result (state.new ≡ left (walk_context a self.now)
+            (group_frame (setting_view setting.now) (group_node_view group.now)) [] state.old) }
     {
-        let frame = frame_of(setting.manner, &group.look);
+        let frame = frame_in(setting, &group.look);
         state.page.end(self.context.quotes, &frame)
     }
 
@@ -131,7 +132,7 @@ impl<'a> Walk<'_, 'a> {
             (names_frame (setting_view setting.now).manner (names_parts_view names.now) [])
             [] state.old) }
     {
-        let frame = frame_of(setting.manner, names.look);
+        let frame = names_frame(setting.manner, names);
         let meta = ElemMeta::Names(Vec::new(self.context.alloc));
         state.page.begin_element(&frame, meta)
     }
@@ -147,7 +148,7 @@ impl<'a> Walk<'_, 'a> {
             (names_frame (setting_view setting.now).manner (names_parts_view names.now) [])
             [] state.old) }
     {
-        let frame = frame_of(setting.manner, names.look);
+        let frame = names_frame(setting.manner, names);
         state.page.end_element(self.context.quotes, &frame)
     }
 
@@ -170,9 +171,85 @@ impl<'a> Walk<'_, 'a> {
         state: &mut State<'a>,
     ) -> Result<(), AllocError>
         ensures { (a : Answers) → OnOk result (state.new
-            ≡ accepted (walk_context a self.now) (setting_view setting.now) state.old) }
+            ≡ left (walk_context a self.now) (bare (setting_view setting.now)) [] state.old) }
     {
         state.page.end(self.context.quotes, &bare(setting))
+    }
+
+    /// Begins the element round a node, with the delimiter before it.
+    pub(crate) fn begin_delimited(
+        &self,
+        frame: &Frame<'a>,
+        state: &mut State<'a>,
+    ) -> Result<(), AllocError>
+        ensures { (a : Answers) → OnOk result (state.new
+            ≡ entered (walk_context a self.now) (frame_view frame.now) [] state.old) }
+    {
+        state.page.begin(frame)
+    }
+
+    /// Ends that element; it is removed if the node prints nothing.
+    pub(crate) fn end_delimited(
+        &self,
+        frame: &Frame<'a>,
+        state: &mut State<'a>,
+    ) -> Result<(), AllocError>
+        ensures { (a : Answers) → OnOk result (state.new
+            ≡ left (walk_context a self.now) (frame_view frame.now) [] state.old) }
+    {
+        state.page.end(self.context.quotes, frame)
+    }
+}
+
+/// The element of a node with that look, whatever it stands for. Where names stand alone it has no affixes.
+fn frame_in<'a>(setting: &NodeSetting<'a>, look: &'a Look) -> Frame<'a>
+    ensures { frame_view result ≡ frame (setting_view setting.now).manner None
+        (look_in (setting_view setting.now).form (look_view look.now)) }
+{
+    match setting.form {
+        SpecialForm::AuthorsAlone(_) => Frame {
+            display: look.display,
+            ..bare(setting)
+        },
+        _ => frame_of(setting.manner, look),
+    }
+}
+
+/// Whether delimiters stand between nodes that print something, and not between all that are admitted.
+pub(crate) fn delimits_printed(setting: &NodeSetting<'_>, state: &State<'_>) -> bool
+    ensures { result ≡ delimits_printed (setting_view setting.now) state.now }
+{
+    state.is_published && has_delimiter(setting)
+}
+
+/// Whether the group around has a delimiter.
+fn has_delimiter(setting: &NodeSetting<'_>) -> bool
+    ensures { result ≡ is_some (setting_view setting.now).delimiter }
+{
+    match setting.delimiter {
+        Some(_) => true,
+        None => false,
+    }
+}
+
+/// The element round a node, with the delimiter of the group around before it, if something was printed there.
+pub(crate) fn delimited_frame<'a>(setting: &NodeSetting<'a>, state: &State<'a>) -> Frame<'a>
+    ensures { frame_view result ≡ delimited_frame (setting_view setting.now) state.now }
+{
+    Frame {
+        prefix: delimiter_if(state.page.has_printed(), setting),
+        ..bare(setting)
+    }
+}
+
+/// The delimiter of the group around, where it is wanted.
+fn delimiter_if<'a>(wanted: bool, setting: &NodeSetting<'a>) -> &'a str
+    ensures { spelled result
+        ≡ (if wanted then unwrap_or (setting_view setting.now).delimiter [] else []) }
+{
+    match (wanted, setting.delimiter) {
+        (true, Some(delimiter)) => delimiter,
+        (true, None) | (false, _) => no_text(),
     }
 }
 

@@ -173,7 +173,11 @@ fn asks_for_date(form: SpecialForm) -> bool
     ensures { result ≡ asks_for_date (form_view form) }
 {
     match form {
-        SpecialForm::Whole | SpecialForm::AuthorOnly(_) | SpecialForm::WithoutAuthor => false,
+        SpecialForm::Whole
+        | SpecialForm::AuthorOnly(_)
+        | SpecialForm::WithoutAuthor
+        | SpecialForm::AuthorsAlone(_)
+        | SpecialForm::WithoutNames(_) => false,
         SpecialForm::FirstDateOnly | SpecialForm::SuffixOnly => true,
     }
 }

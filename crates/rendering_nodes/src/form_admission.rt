@@ -15,8 +15,8 @@ pub(crate) fn allows_variable(form: SpecialForm, variable: Variable) -> bool
     ensures { result ≡ admission.allows_variable (form_view form) variable }
 {
     match form {
-        SpecialForm::Whole | SpecialForm::WithoutAuthor => true,
-        SpecialForm::AuthorOnly(_) => false,
+        SpecialForm::Whole | SpecialForm::WithoutAuthor | SpecialForm::WithoutNames(_) => true,
+        SpecialForm::AuthorOnly(_) | SpecialForm::AuthorsAlone(_) => false,
         SpecialForm::FirstDateOnly | SpecialForm::SuffixOnly => is_with_suffix(variable),
     }
 }
@@ -52,8 +52,9 @@ pub(crate) fn allows_words(form: SpecialForm) -> bool
     ensures { result ≡ admission.allows_words (form_view form) }
 {
     match form {
-        SpecialForm::Whole | SpecialForm::WithoutAuthor => true,
+        SpecialForm::Whole | SpecialForm::WithoutAuthor | SpecialForm::WithoutNames(_) => true,
         SpecialForm::AuthorOnly(_) | SpecialForm::FirstDateOnly | SpecialForm::SuffixOnly => false,
+        SpecialForm::AuthorsAlone(_) => false,
     }
 }
 
@@ -66,21 +67,13 @@ pub(crate) fn allows_names(form: SpecialForm, names: &Names) -> bool
         SpecialForm::AuthorOnly(variable) => is_of(variable, names),
         SpecialForm::WithoutAuthor => !is_of(NameVariable::Author, names),
         SpecialForm::FirstDateOnly | SpecialForm::SuffixOnly => false,
-    }
-}
-
-/// Whether the form excludes the names with all of their substitute.
-pub(crate) fn excludes(form: SpecialForm, names: &Names) -> bool
-    ensures { result ≡ admission.excludes (form_view form) (names_node_view names.now) }
-{
-    match form {
-        SpecialForm::WithoutAuthor => is_of(NameVariable::Author, names),
-        _ => false,
+        SpecialForm::AuthorsAlone(variable) => is_of(variable, names),
+        SpecialForm::WithoutNames(variable) => !is_of(variable, names),
     }
 }
 
 /// Whether the variable is among those of the names.
-fn is_of(variable: NameVariable, names: &Names) -> bool
+pub(crate) fn is_of(variable: NameVariable, names: &Names) -> bool
     ensures { result ≡ admission.is_of variable (names_node_view names.now) }
 {
     for other in &names.variables {

@@ -7,7 +7,7 @@ ghost use Rattle.rendering_names.specs.Views.{names_parts_view};
 ghost use Rattle.rendering_nodes.specs.Content as content;
 ghost use Rattle.rendering_style.specs.Views.{group_node_view, names_node_view, text_look_view};
 
-use rendering_leaves::{NodeSetting, look_manner, text_manner};
+use rendering_leaves::{NodeSetting, SpecialForm, look_manner, text_manner};
 use rendering_names::NamesParts;
 use rendering_style::{Group, Names, TextLook};
 use texts::borrowed_text;
@@ -45,6 +45,17 @@ pub(crate) fn inside_group<'a>(setting: &NodeSetting<'a>, group: &'a Group) -> N
         manner: look_manner(setting.manner, &group.look),
         delimiter: borrowed_text(&group.delimiter),
         ..*setting
+    }
+}
+
+/// What a names node says, without its affixes where names stand alone.
+pub(crate) fn names_in<'a>(setting: &NodeSetting<'a>, names: &NamesParts<'a>) -> NamesParts<'a>
+    ensures { names_parts_view result
+        ≡ content.names_in (setting_view setting.now).form (names_parts_view names.now) }
+{
+    match setting.form {
+        SpecialForm::AuthorsAlone(_) => names.without_affixes(),
+        _ => *names,
     }
 }
 

@@ -161,8 +161,8 @@ impl<'a> Stage<'_, '_, 'a> {
             (stage_view a self.now).context self.now.has_date (stage_view a self.now).form }
     {
         match self.form {
-            SpecialForm::Whole | SpecialForm::WithoutAuthor => true,
-            SpecialForm::AuthorOnly(_) => false,
+            SpecialForm::Whole | SpecialForm::WithoutAuthor | SpecialForm::WithoutNames(_) => true,
+            SpecialForm::AuthorOnly(_) | SpecialForm::AuthorsAlone(_) => false,
             SpecialForm::FirstDateOnly => !self.has_date,
             SpecialForm::SuffixOnly => !self.has_date && !self.walk.context.has_suffix_node,
         }

@@ -9,12 +9,18 @@ mod finding;
 mod form_admission;
 mod inner_settings;
 mod leaf_surveys;
+mod left_open;
+mod left_out;
 mod node_laws;
 mod people;
 mod style_walk;
 mod suffix;
 mod survey;
 
+pub use left_open::{
+    accepted_substitutes_end, admitted_nodes_are_delimited, nodes_have_their_affixes,
+    substitutes_suppress_at_once,
+};
 pub use node_laws::{
     alike_entries_print_alike, contents_are_nested, unanswered_groups_add_nothing,
 };

@@ -1,18 +1,17 @@
 //! Names with people.
 
-ghost use Rattle.std.specs.Prelude.{◌≡◌, Some, fold, IfOk, OnOk};
+ghost use Rattle.std.specs.Prelude.{◌≡◌, Some, OnOk};
 ghost use Rattle.std.specs.Option.{unwrap_or};
 ghost use Rattle.rendering_context.specs.Cites.{names_of};
 ghost use Rattle.rendering_entries.specs.Answers.{Answers};
-ghost use Rattle.rendering_leaves.specs.NodeSettings.{append, with_variable};
+ghost use Rattle.rendering_leaves.specs.NodeSettings.{append};
 ghost use Rattle.rendering_leaves.specs.Views.{setting_view};
 ghost use Rattle.rendering_names.specs.Names.{names_pieces, node_options};
 ghost use Rattle.rendering_people.specs.Properties.{raised_to};
 ghost use Rattle.rendering_people.specs.Views.{all_lent_answered_view};
 ghost use Rattle.rendering_names.specs.Views.{names_parts_view, resolved_options_view};
-ghost use Rattle.rendering_nodes.specs.Content.{append_names, append_people, disambiguated};
+ghost use Rattle.rendering_nodes.specs.Content.{append_names, append_people, disambiguated, with_people_printed};
 ghost use Rattle.rendering_nodes.specs.Views.{walk_context};
-ghost use Rattle.rendering_tree.specs.Metas.{Answered as SomePeople};
 
 use crate::style_walk::Walk;
 use rendering_context::DisambiguateState;
@@ -88,6 +87,53 @@ impl<'s, 'a> Walk<'s, 'a> {
         if state.names.is_some() {
             return self.push_shown(setting, names, options, own, people, state);
         }
+        match self.context.properties.first_names {
+            Some(first) => self.push_named(setting, names, options, own, first, people, state),
+            None => self.push_in_state(setting, names, options, own, people, state),
+        }
+    }
+
+    /// Prints the first names with people, of which more is printed before cites are compared.
+    fn push_named(
+        &self,
+        setting: &NodeSetting<'a>,
+        names: &NamesParts<'a>,
+        options: &ResolvedNameOptions<'a>,
+        own: &NameDisambiguationProperties,
+        first: &NameDisambiguationProperties,
+        people: &[Answered<'_>],
+        state: &mut State<'a>,
+    ) -> Result<(), AllocError>
+        requires { resolved_options_view options.now
+            ≡ node_options (names_parts_view names.now) (setting_view setting.now).options }
+        ensures { (a : Answers) → OnOk result (state.new ≡ append (walk_context a self.now)
+            (names_pieces (walk_context a self.now).locales (setting_view setting.now).manner
+            (names_parts_view names.now) (setting_view setting.now).options
+            (raised_to (names_of (walk_context a self.now).properties.disambiguation)
+            (raised_to first.now own.now)) (all_lent_answered_view people.now)) state.old) }
+    {
+        let named = own.raised_to(self.context.alloc, first)?;
+        self.push_in_state(setting, names, options, &named, people, state)
+    }
+
+    /// Prints the first names with people, of which more may be printed to disambiguate cites.
+    fn push_in_state(
+        &self,
+        setting: &NodeSetting<'a>,
+        names: &NamesParts<'a>,
+        options: &ResolvedNameOptions<'a>,
+        own: &NameDisambiguationProperties,
+        people: &[Answered<'_>],
+        state: &mut State<'a>,
+    ) -> Result<(), AllocError>
+        requires { resolved_options_view options.now
+            ≡ node_options (names_parts_view names.now) (setting_view setting.now).options }
+        ensures { (a : Answers) → OnOk result (state.new ≡ append (walk_context a self.now)
+            (names_pieces (walk_context a self.now).locales (setting_view setting.now).manner
+            (names_parts_view names.now) (setting_view setting.now).options
+            (raised_to (names_of (walk_context a self.now).properties.disambiguation)
+            own.now) (all_lent_answered_view people.now)) state.old) }
+    {
         match &self.context.properties.disambiguation {
             DisambiguateState::NameDisambiguation(others) => {
                 self.push_raised(setting, names, options, own, others, people, state)
@@ -154,9 +200,10 @@ fn remember(own: NameDisambiguationProperties, state: &mut State<'_>)
     }
 }
 
-/// Adds the variables of people to those that are not printed again.
+/// Remembers that a substitute printed people, who are not printed again.
 fn suppress_people(people: &[Answered<'_>], state: &mut State<'_>) -> Result<(), AllocError>
-    ensures { OnOk result (state.new ≡ record state.old { suppressed = fold (λ vs (a : SomePeople). with_variable vs (Variable.Name a.1)) state.old.suppressed (all_lent_answered_view people.now) }) }
+    ensures { OnOk result (state.new
+        ≡ with_people_printed (all_lent_answered_view people.now) state.old) }
 {
     for answered in people {
         state.suppress(Variable::Name(answered.variable))?;

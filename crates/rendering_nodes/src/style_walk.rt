@@ -40,7 +40,13 @@ impl<'s, 'a> Walk<'s, 'a> {
         nodes: &'a [Node],
         state: &State<'a>,
     ) -> Result<Survey, AllocError>
-        ensures { IfOk result (λ v. survey_view v ≡ surveys (record { context = walk_context (E.answers entry.now) self.now; form = form_view form; has_date = state.now.has_date; suppressed = state.now.suppressed }) (opened_nodes (macros_of self.now) (map node_view nodes.now))) }
+        ensures { IfOk result (λ v. survey_view v ≡ surveys (record {
+          context = walk_context (E.answers entry.now) self.now;
+          form = form_view form;
+          has_date = state.now.has_date;
+          suppressed = state.now.suppressed;
+        })
+            (opened_nodes (macros_of self.now) (map node_view nodes.now))) }
     {
         let stage = self.stage(form, state);
         let mut findings = Vec::new(self.context.alloc);
@@ -68,7 +74,12 @@ impl<'s, 'a> Walk<'s, 'a> {
 
     /// How far the call has come.
     pub(crate) fn stage<'t>(&'t self, form: SpecialForm, state: &'t State<'a>) -> Stage<'t, 's, 'a>
-        ensures index { (a : Answers) → stage_view a result ≡ record { context = walk_context a self.now; form = form_view form; has_date = state.now.has_date; suppressed = state.now.suppressed } }
+        ensures index { (a : Answers) → stage_view a result ≡ record {
+          context = walk_context a self.now;
+          form = form_view form;
+          has_date = state.now.has_date;
+          suppressed = state.now.suppressed;
+        } }
         ensures macros { macros_of result.walk.now ≡ macros_of self.now }
     {
         Stage {

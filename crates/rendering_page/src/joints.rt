@@ -6,7 +6,7 @@ ghost use Rattle.rendering_page.specs.Joints as specs;
 use crate::tail::is_punctuation;
 
 /// Whether a character is left out that meets another one.
-pub(crate) fn is_left_out(before: char, c: char) -> bool
+pub fn is_left_out(before: char, c: char) -> bool
     ensures { result ≡ specs.is_left_out before c }
 {
     match before {
@@ -22,7 +22,7 @@ pub(crate) fn is_left_out(before: char, c: char) -> bool
 }
 
 /// Whether it takes the place of the one that it meets.
-fn is_replaced(before: char, c: char) -> bool
+pub fn is_replaced(before: char, c: char) -> bool
     ensures { result ≡ specs.is_replaced before c }
 {
     match before {
@@ -41,14 +41,14 @@ pub(crate) fn makes_room(is_quoted: bool, before: char, c: char) -> bool
 }
 
 /// The punctuation that goes inside quotes.
-pub(crate) fn goes_inside(c: char) -> bool
+pub fn goes_inside(c: char) -> bool
     ensures { result ≡ specs.goes_inside c }
 {
     matches!(c, ',' | '.')
 }
 
 /// The punctuation after which none goes inside.
-pub(crate) fn is_stop(c: char) -> bool
+pub fn is_stop(c: char) -> bool
     ensures { result ≡ specs.is_stop c }
 {
     is_punctuation(c) || c == ':'

@@ -15,7 +15,8 @@ mod piece;
 mod plain;
 mod tail;
 
-pub use manner::{Frame, Manner, uncased, with_case};
+pub use joints::{goes_inside, is_left_out, is_replaced, is_stop};
+pub use manner::{Frame, Manner, is_joined, uncased, with_case};
 pub use page::Page;
-pub use piece::{Link, Piece, Words, looks_like, no_words};
+pub use piece::{Link, Piece, Words, looks_like, no_words, pop_made, split_last};
 pub use plain::plain_manner;

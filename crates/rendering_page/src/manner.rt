@@ -61,7 +61,7 @@ pub fn uncased(manner: Manner) -> Manner
 }
 
 /// Whether texts are joined by what punctuation they have.
-pub(crate) fn is_joined(rule: PageRule) -> bool
+pub fn is_joined(rule: PageRule) -> bool
     ensures { result ≡ pages.is_joined rule }
 {
     matches!(rule, PageRule::Joined)

@@ -403,6 +403,13 @@ impl<'a> Page<'a> {
         Ok(())
     }
 
+    /// Whether its texts are joined.
+    pub fn is_joined(&self) -> bool
+        ensures { result ≡ is_joined self.now.rule }
+    {
+        is_joined(self.rule)
+    }
+
     /// What stands on the page, piece by piece, in the order of reading.
     pub fn into_pieces(self) -> Vec<Piece<'a>>
         ensures { pieces_view result.items ≡ self.entry.tokens }

@@ -162,7 +162,7 @@ fn rest_of_made(mut text: String) -> String
 }
 
 /// The last character, and what stands before it.
-pub(crate) fn split_last(text: &str) -> Option<(char, &str)>
+pub fn split_last(text: &str) -> Option<(char, &str)>
     ensures chars { MatchOption result (chars text.now ≡ []) (λ x. chars text.now
         ≡ chars x.1.now ++ x.0 ∷ []) }
     ensures leading { IfSome result (λ x. x.1.now ≡ take (length x.1.now) text.now) }
@@ -185,7 +185,7 @@ fn pop_borrowed<'a>(text: &mut &'a str) -> Option<char>
 }
 
 /// Takes the last character off a text.
-fn pop_made(text: &mut String) -> Option<char>
+pub fn pop_made(text: &mut String) -> Option<char>
     ensures { MatchOption result ((characters text.old ≡ []) × (characters text.new ≡ [])) (λ c.
         characters text.old ≡ characters text.new ++ c ∷ []) }
 {

@@ -2,3 +2,4 @@ pub mod Written
 pub mod CountsRows
 pub mod CountsMeaning
 pub mod RangesLaws
+pub mod DelimitedDashes

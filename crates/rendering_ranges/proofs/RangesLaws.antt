@@ -4,12 +4,15 @@ use Rattle.laws.specs.Characters.{en_dash}
 use Rattle.laws.specs.Text.{is_filled}
 use Rattle.literature_numbers.specs.NumericText.{numeral_text}
 use Rattle.literature_numbers.specs.Pages.{Part, AmpersandPart, CommaPart, SinglePage, Range, part_text, pages_text}
-use Rattle.rendering_ranges.specs.Laws.{FormatsPrintWhatIsThere, PagesWithoutFormatAreAsTheyAre}
+use Rattle.rendering_ranges.specs.Laws.{FormatsPrintWhatIsThere, PagesWithoutFormatAreAsTheyAre, TextsWithoutFormatAreDashed}
 use Rattle.rendering_ranges.specs.Ranges.{pages_in, part_in, second_text}
 use Rattle.rendering_taxonomy.specs.declared.page.PageRangeFormat.{PageRangeFormat}
 
 pub without_format : PagesWithoutFormatAreAsTheyAre
 without_format parts = refl
+
+pub dashed_without_format : TextsWithoutFormatAreDashed
+dashed_without_format cs = refl
 
 filled-append : (xs ys : List ℕ) → is_filled (xs ++ ys) ≡ (is_filled xs || is_filled ys)
 filled-append [] ys = refl

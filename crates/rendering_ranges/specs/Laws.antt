@@ -4,6 +4,8 @@ use Rattle.std.specs.Fmt.{decimal}
 use Rattle.laws.specs.Text.{is_filled}
 use Rattle.literature_numbers.specs.Pages.{Part, pages_text}
 use Rattle.rendering_ranges.specs.Counts.{fronted, lent, second_count}
+use Rattle.rendering_ranges.specs.Dashes.{dashed}
+use Rattle.rendering_ranges.specs.Lettered.{lettered}
 use Rattle.rendering_ranges.specs.Ranges.{pages_in}
 use Rattle.rendering_taxonomy.specs.declared.page.PageRangeFormat.{PageRangeFormat}
 
@@ -24,3 +26,7 @@ abbrev pub FormatsPrintWhatIsThere : Type 0
 FormatsPrintWhatIsThere =
     (format : Option PageRangeFormat) (parts : List Part)
     → is_filled (pages_in format parts) ≡ is_filled (pages_text parts)
+
+-- Without a format a text that stands instead of pages has en dashes in its ranges, and is else as it is.
+abbrev pub TextsWithoutFormatAreDashed : Type 0
+TextsWithoutFormatAreDashed = (cs : List ℕ) → lettered None cs ≡ dashed cs

@@ -1,6 +1,6 @@
 //! Laws of what is printed of pages in a format.
 
-ghost use Rattle.rendering_ranges.specs.Laws.{FormatsPrintWhatIsThere, PagesWithoutFormatAreAsTheyAre, SecondNumbersMeanTheirPage};
+ghost use Rattle.rendering_ranges.specs.Laws.{FormatsPrintWhatIsThere, PagesWithoutFormatAreAsTheyAre, SecondNumbersMeanTheirPage, TextsWithoutFormatAreDashed};
 
 /// What is printed of a second number that does not come before the first one means the same page: with the front of the
 /// first one before them its digits are whole.
@@ -16,4 +16,9 @@ pub fn pages_without_format_are_as_they_are()
 /// Pages have a text in a format where they have one without.
 pub fn formats_print_what_is_there()
     ensures { FormatsPrintWhatIsThere }
+{}
+
+/// Without a format a text that stands instead of pages has en dashes in its ranges, and is else as it is.
+pub fn texts_without_format_are_dashed()
+    ensures { TextsWithoutFormatAreDashed }
 {}

@@ -71,7 +71,7 @@ pub record DatePartChange : Type 0 where
   pub range_delimiter : Option (List ℕ)
 
 -- The answer to a date variable: in parts of the style's own, or in those of the locale's dates of a form; cut to so much of it. The parts
--- may be changed.
+-- may be changed. The sides of a range may print once what they share.
 pub record DateNode : Type 0 where
   pub variable : DateVariable
   pub form : Option DateForm
@@ -80,6 +80,7 @@ pub record DateNode : Type 0 where
   pub part_changes : List DatePartChange
   pub delimiter : Option (List ℕ)
   pub text_case : Option TextCase
+  pub merges_ranges : Bool
   pub look : Look
 
 -- how given names or family names look by themselves, the case of their letters, and their affixes

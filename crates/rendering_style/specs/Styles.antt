@@ -47,6 +47,7 @@ pub record Citation : Type 0 where
   pub same_entry_is_no_rival : Bool
   pub suffixes_by_number : Bool
   pub raises_names_first : Bool
+  pub gathers_by_text : Bool
 
 -- cites that are not disambiguated, not gathered and not collapsed
 abbrev pub plain_citation : Layout → Citation
@@ -67,6 +68,7 @@ plain_citation l = record {
   same_entry_is_no_rival = false;
   suffixes_by_number = false;
   raises_names_first = false;
+  gathers_by_text = false;
 }
 
 -- how the items of a bibliography are printed
@@ -79,6 +81,7 @@ pub record Bibliography : Type 0 where
   pub entry_spacing : ℤ
   pub substitute : Option (List ℕ)
   pub substitute_rule : SubsequentAuthorSubstituteRule
+  pub substitutes_names_alone : Bool
 
 -- a style, or the parts that one is to be made of
 pub record Style : Type 0 where

@@ -106,6 +106,7 @@ date_node_view d = record {
   part_changes = map part_change_view d.part_changes.items;
   delimiter = option_map characters d.delimiter;
   text_case = d.text_case;
+  merges_ranges = d.merges_ranges;
   look = look_view d.look;
 }
 
@@ -242,6 +243,7 @@ citation_layout_view c = record {
   same_entry_is_no_rival = c.same_entry_is_no_rival;
   suffixes_by_number = c.suffixes_by_number;
   raises_names_first = c.raises_names_first;
+  gathers_by_text = c.gathers_by_text;
 }
 
 -- what is specified for the bibliography
@@ -255,6 +257,7 @@ bibliography_layout_view b = record {
   entry_spacing = b.entry_spacing;
   substitute = option_map characters b.subsequent_author_substitute;
   substitute_rule = b.subsequent_author_substitute_rule;
+  substitutes_names_alone = b.substitutes_names_alone;
 }
 
 -- the parts of a style

@@ -136,6 +136,8 @@ pub struct Date {
     pub delimiter: Option<String>,
     /// Which letters of what it prints are made small or capitals.
     pub text_case: Option<TextCase>,
+    /// Whether the sides of a range print once what they share, as in `3–6 May 2014`.
+    pub merges_ranges: bool,
     pub look: Look,
 }
 

@@ -55,6 +55,8 @@ pub struct Citation {
     pub suffixes_by_number: bool,
     /// Whether given names are added by the rule before cites are compared.
     pub raises_names_first: bool,
+    /// Whether cites are gathered by what their names print, and not also by whom they name.
+    pub gathers_by_text: bool,
 }
 
 impl Citation {
@@ -83,6 +85,7 @@ impl Citation {
             same_entry_is_no_rival: false,
             suffixes_by_number: false,
             raises_names_first: false,
+            gathers_by_text: false,
         }
     }
 }
@@ -101,6 +104,8 @@ pub struct Bibliography {
     /// What stands for names that are those of the item before, and by which rule.
     pub subsequent_author_substitute: Option<String>,
     pub subsequent_author_substitute_rule: SubsequentAuthorSubstituteRule,
+    /// Whether it stands for names alone, so that their labels and affixes stay, and names are compared by what they print.
+    pub substitutes_names_alone: bool,
 }
 
 /// What a style is made of.

@@ -1,1 +1,3 @@
+pub mod MappedSorts
+pub mod Sorts
 pub mod StableSorts

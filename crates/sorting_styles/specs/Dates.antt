@@ -53,7 +53,7 @@ sorting_parts d =
     part_if d (parts.Year lengths.Long) ++ (part_if d (parts.Month months.TwoDigits)
     ++ part_if d (parts.Day days.TwoDigits))
 
--- A date for sorting: these parts with nothing between them, cut as before.
+-- A date for sorting: these parts with nothing between them, cut as before; both sides of a range whole.
 abbrev pub sorting_date : DateNode → DateNode
 sorting_date d =
     record d {
@@ -61,4 +61,5 @@ sorting_date d =
       own_parts = sorting_parts d;
       part_changes = [];
       delimiter = Some [];
+      merges_ranges = false;
     }

@@ -118,5 +118,6 @@ pub(crate) fn change_date(alloc: Global, date: &mut Date) -> Result<(), AllocErr
     date.own_parts = own_parts;
     date.part_changes = Vec::new(alloc);
     date.delimiter = Some(empty_text(alloc));
+    date.merges_ranges = false;
     Ok(())
 }

@@ -51,11 +51,13 @@ fn shape<'a>(
 ) -> DateShape<'a> {
     let cut = session.word_or(case, "parts", PARTS, DateParts::YearMonthDay);
     let delimiter = text_or_none(session, case, "delimiter");
+    let merges_ranges = session.is_set(case, "merges_ranges");
     DateShape {
         parts,
         changes,
         cut,
         delimiter,
+        merges_ranges,
     }
 }
 
@@ -106,7 +108,7 @@ fn put_listed(session: &mut Session, case: &Value<'_>, own: &[Locale], files: &[
 }
 
 /// The members of a case.
-const MEMBERS: [&str; 16] = [
+const MEMBERS: [&str; 17] = [
     "case",
     "name",
     "date",
@@ -114,6 +116,7 @@ const MEMBERS: [&str; 16] = [
     "part_changes",
     "parts",
     "delimiter",
+    "merges_ranges",
     "letters",
     "formatting",
     "strips_periods",

@@ -133,7 +133,7 @@ fn label_node(session: &mut Session, node: &Value<'_>) -> Node {
 }
 
 /// The members of a date node.
-const DATE_MEMBERS: [&str; 11] = [
+const DATE_MEMBERS: [&str; 12] = [
     "node",
     "variable",
     "form",
@@ -141,6 +141,7 @@ const DATE_MEMBERS: [&str; 11] = [
     "date_parts",
     "part_changes",
     "delimiter",
+    "merges_ranges",
     "formatting",
     "prefix",
     "suffix",
@@ -158,6 +159,7 @@ fn date_node(session: &mut Session, node: &Value<'_>) -> Node {
         part_changes: part_changes(session, node),
         delimiter: session.maybe_owned_text(node, "delimiter"),
         text_case: None,
+        merges_ranges: session.is_set(node, "merges_ranges"),
         look: look(session, node),
     })
 }

@@ -121,6 +121,7 @@ fn citation_in(session: &mut Session, given: &Value<'_>) -> Citation {
         same_entry_is_no_rival: false,
         suffixes_by_number: false,
         raises_names_first: false,
+        gathers_by_text: false,
     }
 }
 
@@ -134,7 +135,7 @@ fn line_spacing(session: &mut Session, given: &Value<'_>) -> Option<NonZeroI16> 
 }
 
 /// The members of a bibliography.
-const BIBLIOGRAPHY_MEMBERS: [&str; 8] = [
+const BIBLIOGRAPHY_MEMBERS: [&str; 9] = [
     "layout",
     "name_options",
     "hanging_indent",
@@ -143,6 +144,7 @@ const BIBLIOGRAPHY_MEMBERS: [&str; 8] = [
     "entry_spacing",
     "substitute",
     "substitute_rule",
+    "substitutes_names_alone",
 ];
 
 /// The bibliography of a style, where it has one.
@@ -166,6 +168,7 @@ pub(crate) fn maybe_bibliography(session: &mut Session, style: &Value<'_>) -> Op
             SubsequentAuthorSubstituteRule::CompleteAll,
         ),
         subsequent_author_substitute: session.maybe_owned_text(given, "substitute"),
+        substitutes_names_alone: session.is_set(given, "substitutes_names_alone"),
         name_options: name_options(session, given),
         layout: layout(session, given),
     })

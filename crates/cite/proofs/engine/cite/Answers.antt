@@ -1,25 +1,31 @@
-use Rattle.std.proofs.Common.{◌≡◌, Err, rules}
+use Rattle.std.proofs.Common.{◌≡◌, ℕ, List, Err, rules}
 use Rattle.std.specs.Io.KnownBytes.{Appends}
 use Rattle.cite_output.specs.Pieces.{output_of}
+use Rattle.cite_requests.specs.Answers.{Writes}
+use Rattle.cite.specs.Verdict.{IsVerdict}
 use Rattle.cite.specs.Views.{task_of}
 use Rattle.cite.proofs.AlikeAnswers.{writes_alike}
-use Rattle.cite.proofs.RewrittenAnswers.{refused_rewritten, writes_rewritten}
+use Rattle.cite.proofs.RewrittenAnswers.{refused_alike, writes_rewritten}
 use Rattle.cite.proofs.engine.cite.Goals as goal
 
-pub returns-in-Ok-clause-alike : goal.returns-in-Ok-clause-alike
-returns-in-Ok-clause-alike g c =
-    writes_alike c.args.bib.now (task_of c.args.document.now c.args.style.now c.args.locale.now c.args.sections.now c.args.format)
-    (λ output. Appends (g.W.Sink.contents c.args.sink.now) (g.W.Sink.contents c.write_to.new.sink) output) (output_of c.in_ok-output.output, c.in_ok-output.ensures, c.in-Ok.ensures.ok)
+pub returns-in-Ok-clause-written : goal.returns-in-Ok-clause-written
+returns-in-Ok-clause-written g c =
+    let task = task_of c.args.document.now c.args.style.now c.args.locale.now c.args.sections.now c.args.format in
+    let taken : List ℕ → Type 0 = λ output. Appends (g.W.Sink.contents c.args.sink.now) (g.W.Sink.contents c.write_to.new.sink) output in
+    let output : Writes (IsVerdict c.args.bib.now task) taken = (output_of c.in_ok-output.output, c.in_ok-output.ensures, c.in-Ok.ensures.ok) in
+    record {
+      output = output;
+      alike = writes_alike c.args.bib.now task taken output;
+      rewriting = writes_rewritten c.args.bib.now task taken output;
+    }
 
 pub returns-clause-cut_short : goal.returns-clause-cut_short
 returns-clause-cut_short g c = (output_of c.in_ok-output.output, c.in_ok-output.ensures, c.in-Err.ensures.err)
 
-pub returns-in-Ok-clause-rewriting : goal.returns-in-Ok-clause-rewriting
-returns-in-Ok-clause-rewriting g c =
-    writes_rewritten c.args.bib.now (task_of c.args.document.now c.args.style.now c.args.locale.now c.args.sections.now c.args.format)
-    (λ output. Appends (g.W.Sink.contents c.args.sink.now) (g.W.Sink.contents c.write_to.new.sink) output) (output_of c.in_ok-output.output, c.in_ok-output.ensures, c.in-Ok.ensures.ok)
-
-pub returns-in_err-output-clause-rewriting_refused : goal.returns-in_err-output-clause-rewriting_refused
-returns-in_err-output-clause-rewriting_refused g c =
+pub returns-in_err-output-clause-refused : goal.returns-in_err-output-clause-refused
+returns-in_err-output-clause-refused g c =
     let is : c.from_residual.result ≡ Err c.in_err-output.field-0.0 = search rules in
-    refused_rewritten c.args.bib.now (task_of c.args.document.now c.args.style.now c.args.locale.now c.args.sections.now c.args.format) c.from_residual.result c.in_err-output.field-0.0 is c.in_err-output.ensures
+    refused_alike c.args.bib.now (task_of c.args.document.now c.args.style.now c.args.locale.now c.args.sections.now c.args.format) c.from_residual.result c.in_err-output.field-0.0 is c.in_err-output.ensures
+
+pub returns-clause-refused : goal.returns-clause-refused
+returns-clause-refused g c = record { first = tt; rewriting = λ file settled. tt }

@@ -22,7 +22,7 @@ returns-clause-served g c =
     λ i. record { document = d; context = context_of job.style (c.in_ok-locale.ensures i); sections = job.sections; format = job.format } in
     let taken : List ℕ → Type 0 = λ output. Appends (g.O.Sink.contents c.args.out.now) (g.O.Sink.contents c.cite.new.sink) output in
     on_ok_weaker c.cite.result
-    (λ h. of_job read job b d taken c.in_ok-bib.ensures.bytes c.in_ok-document.ensures.bytes (subst (λ (t : Task). Writes (IsVerdict b t) taken) task h)) c.cite.ensures.written
+    (λ h. of_job read job b d taken c.in_ok-bib.ensures.bytes c.in_ok-document.ensures.bytes (subst (λ (t : Task). Writes (IsVerdict b t) taken) task h.output)) c.cite.ensures.written
 
 pub returns-clause-untouched : goal.returns-clause-untouched
 returns-clause-untouched g c =
@@ -54,5 +54,5 @@ returns-clause-refused g c =
     (λ e refused cut_short cause. reason_weaker (λ message. IsRefused b own message) (IsJobFault read (Ok job)) (Writes (IsVerdict b own)) (ServesJob read (Ok job)) (g.O.Sink.failures c.args.out.now) (g.O.Sink.failures c.cite.new.sink) (error_message e)
     (λ k. fault_of_job read job b d (error_message e) c.in_ok-bib.ensures.bytes c.in_ok-document.ensures.bytes (subst (λ (t : Task). IsRefused b t (error_message e)) task k))
     (λ P k. of_job read job b d P c.in_ok-bib.ensures.bytes c.in_ok-document.ensures.bytes (subst (λ (t : Task). Writes (IsVerdict b t) P) task k))
-    (says_why e (IsVerdict b own) (g.O.Sink.contents c.args.out.now) (g.O.Sink.contents c.cite.new.sink) (g.O.Sink.failures c.args.out.now) (g.O.Sink.failures c.cite.new.sink) refused cut_short cause))
+    (says_why e (IsVerdict b own) (g.O.Sink.contents c.args.out.now) (g.O.Sink.contents c.cite.new.sink) (g.O.Sink.failures c.args.out.now) (g.O.Sink.failures c.cite.new.sink) refused.first cut_short cause))
     c.cite.ensures.refused c.cite.ensures.cut_short c.cite.ensures.cause

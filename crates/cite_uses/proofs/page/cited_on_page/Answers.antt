@@ -1,13 +1,13 @@
 use Rattle.std.proofs.Common.{◌≡◌, ◌≤◌, ℕ, List, [], ◌++◌, length, Option, Some, None, Ok, subst, sym, ap, ◌∙◌}
 use Rattle.std.proofs.Math.Dec.{ltb}
 use Rattle.std.proofs.lemmas.Bool.{ltb-false}
-use Rattle.cite_requests.specs.Answers.{OnWrite, Writes}
+use Rattle.cite_requests.specs.Answers.{IsRefusalUnlessWrite, OnWrite, Writes}
 use Rattle.cite_requests.specs.declared.error.CiteError.{CiteError}
 use Rattle.rendering_output.specs.declared.writing.BufWriteFormat.TheVariants.{Html}
 use Rattle.cite.specs.Verdict.{IsVerdict}
 use Rattle.cite.specs.Views.{task_of}
 use Rattle.cite_uses.specs.declared.page.Page.{Page}
-use Rattle.cite_uses.proofs.PageErrors.{filled, without_room}
+use Rattle.cite_uses.proofs.PageErrors.{filled, still_refused, without_room}
 use Rattle.cite_uses.proofs.page.cited_on_page.Goals as goal
 
 -- what is known
@@ -17,11 +17,17 @@ known (Some xs) = xs
 
 pub returns-in-Ok-clause-whole : goal.returns-in-Ok-clause-whole
 returns-in-Ok-clause-whole c =
-    let written = c.in-Ok.ensures.written in
+    let written = c.in-Ok.ensures.written.output in
     let empty : c.new-sink.result.writer.bytes.items ≡ [] = ap known c.new-sink.ensures.contents ∙ c.new.ensures.items in
     let taken : c.cite-done.new.sink.writer.bytes.items ≡ written.0 = written.2 ∙ ap (λ (xs : List ℕ). xs ++ written.0) empty in
     let shown : c.into_inner-page.result.bytes.items ≡ written.0 = ap (λ (p : Page). p.bytes.items) c.into_inner-page.ensures ∙ taken in
     subst (λ (bytes : List ℕ). IsVerdict c.args.bib.now (task_of c.args.document.now c.args.style.now c.args.locale.now [] Html) (Ok bytes)) (sym shown) written.1
+
+pub returns-in-Err-clause-refused : goal.returns-in-Err-clause-refused
+returns-in-Err-clause-refused c =
+    let wanted = IsVerdict c.args.bib.now (task_of c.args.document.now c.args.style.now c.args.locale.now [] Html) in
+    subst (λ (e : CiteError). IsRefusalUnlessWrite e wanted) (sym c.page_error.ensures)
+    (still_refused (ltb c.len.result c.args.room) c.in-Err.error wanted c.in-Err.ensures.refused.first)
 
 pub returns-in-Err-clause-full : goal.returns-in-Err-clause-full
 returns-in-Err-clause-full c =

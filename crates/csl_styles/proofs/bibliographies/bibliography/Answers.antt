@@ -1,4 +1,4 @@
-use Rattle.std.proofs.Common.{rules, ◌∙◌, w16, FitsSigned}
+use Rattle.std.proofs.Common.{true, rules, ◌∙◌, w16, FitsSigned}
 use Rattle.std.proofs.lemmas.Int.{to_z-of_z}
 use Rattle.csl_styles.specs.SecondFields.{aligned}
 use Rattle.csl_styles.proofs.bibliographies.bibliography.Goals as goal
@@ -15,4 +15,5 @@ returns c =
       entry_spacing = (to_z-of_z w16 c.spacing_of.result fits ∙ c.spacing_of.ensures) j;
       substitute = c.in_ok-substitute.ensures j;
       substitute_rule = c.substitute_rule.ensures j;
+      substitutes_names_alone = true;
     }

@@ -19,4 +19,5 @@ returns c = λ j. record {
   same_entry_is_no_rival = true;
   suffixes_by_number = true;
   raises_names_first = c.raises_names_first.ensures j;
+  gathers_by_text = true;
 }

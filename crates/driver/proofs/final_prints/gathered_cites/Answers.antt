@@ -5,7 +5,7 @@ use Rattle.driver_blocks.specs.Views.{gathered_view}
 use Rattle.driver_names.specs.Views.{printed_view}
 use Rattle.driver_requests.specs.SuffixViews.{suffix_view}
 use Rattle.driver.specs.FinalPrints.{all_gathered}
-use Rattle.driver.proofs.FinalPrintsSteps.{gathered_goes_on, no_cite}
+use Rattle.driver.proofs.FinalPrintsSteps.{gathered_goes_on}
 use Rattle.driver.proofs.final_prints.gathered_cites.Goals as goal
 
 pub loop-at-preserved : goal.loop-at-preserved
@@ -18,6 +18,9 @@ loop-at-preserved g c =
     let in_items : n < length items = omega (arith, c.loop-at-test.true, same) in
     let in_run : n < length run = omega (arith, in_items, c.requires.run) in
     let in_printed : n < length printed = omega (arith, in_items, c.requires.printed) in
-    gathered_goes_on gathered_view (map (option_map suffix_view) c.args.year_suffixes.now) printed_view items run printed n c.item-item.result no_cite c.index-printed-at.result c.loop-at.gathered.items c.push.new.self.items c.gathered_cite.result (all_gathered (map (option_map suffix_view) c.args.year_suffixes.now) 0 items run (map printed_view printed))
-    (tree_view c.tree-tree.result.now) (option_map suffix_view (get_or c.args.year_suffixes.now (get_or run n no_cite).entry None)) in_items in_run in_printed (c.item-item.is ∙ ap (λ xs. get_or xs n c.item-item.result) c.deref-item-items.ensures.value) c.index-printed-at.is
-    c.loop-at.invariant c.in_ok-push.ensures.items c.gathered_cite.ensures c.tree-tree.ensures (sym (get_or-map (option_map suffix_view) c.args.year_suffixes.now (get_or run n no_cite).entry None None (c.requires.within n no_cite in_run)))
+    let years = c.args.year_suffixes.now in
+    let own = c.index-run-at.result in
+    let low : own.entry < length years = omega (arith, ap (λ k. k.entry) c.index-run-at.is, c.requires.within n own in_run) in
+    gathered_goes_on gathered_view (map (option_map suffix_view) years) printed_view items run printed n c.item-item.result own c.index-printed-at.result c.loop-at.gathered.items c.push.new.self.items c.gathered_cite.result (all_gathered (map (option_map suffix_view) years) 0 items run (map printed_view printed))
+    (tree_view c.tree-tree.result.now) (option_map suffix_view (get_or years own.entry None)) in_items in_run in_printed (c.item-item.is ∙ ap (λ xs. get_or xs n c.item-item.result) c.deref-item-items.ensures.value) c.index-run-at.is c.index-printed-at.is
+    c.loop-at.invariant c.in_ok-push.ensures.items c.gathered_cite.ensures c.tree-tree.ensures (sym (get_or-map (option_map suffix_view) years own.entry None None low))

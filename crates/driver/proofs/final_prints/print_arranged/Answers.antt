@@ -3,16 +3,22 @@ use Rattle.std.proofs.lemmas.List.{get_or_default, length-map, length-set}
 use Rattle.std.proofs.lemmas.Option.{slice_get-get_or}
 use Rattle.rendering.specs.Views.{style_context_view}
 use Rattle.rendering_context.specs.Views.{state_view}
+use Rattle.rendering_style.specs.Styles.{Citation}
 use Rattle.rendering_style.specs.Views.{citation_layout_view}
+use Rattle.rendering_context.specs.Contexts.{StyleContext}
 use Rattle.rendering_taxonomy.specs.declared.cite.IdentifierUsage.TheVariants as usages
 use Rattle.rendering_tree.specs.Views.{tree_view}
 use Rattle.driver_blocks.specs.Views.{arranged_view}
-use Rattle.driver.specs.FinalPrints.{arranged_in, placed_view, placed_with}
+use Rattle.driver_requests.specs.Positions.{ibid_at}
+use Rattle.driver_requests.specs.Views.{item_view}
+use Rattle.driver.specs.FinalPrints.{arranged_in, last_cite_view, placed_view, placed_with}
+use Rattle.driver.specs.Stages.{counts_at_last}
 use Rattle.driver_rounds.specs.FirstPrints.{first_print}
 use Rattle.driver_names.specs.Views.{printed_view}
 use Rattle.driver_rounds.specs.Views.{printed_by_states, numbered_view, numbered_cites_view, usage_of}
+use Rattle.driver_rounds.specs.declared.cite.NumberedCite.{NumberedCite}
 use Rattle.driver_rounds.proofs.RequestsFound.{element_plain, element_view, run_at, run_long}
-use Rattle.driver.proofs.FinalPrintsSteps.{no_cite, placed_goes_on, print_at, prints_long}
+use Rattle.driver.proofs.FinalPrintsSteps.{all_count, placed_goes_on, print_at, prints_long}
 use Rattle.driver.proofs.TakenTrees.{all_left, left_after, left_at, left_is, left_same}
 use Rattle.driver.proofs.final_prints.print_arranged.Goals as goal
 
@@ -67,6 +73,24 @@ loop-cite-init g c =
       effort = omega arith;
     }
 
+pub list-requires : goal.list-requires
+list-requires g c =
+    let run = c.args.printing.cites.run.now in
+    let a = c.cite-item.result in
+    let is_index : a.cite.cite ≡ (get_or c.args.arranged.now c.loop-cite.cite-index a).cite.cite = ap (λ b. b.cite.cite) c.cite-item.is in
+    let low = c.requires.indices c.loop-cite.cite-index a c.loop-cite-test.true in
+    let in_run : a.cite.cite < length run = omega (arith, is_index, low, c.requires.printing.in_step.run) in
+    omega (arith, c.requires.printing.within a.cite.cite c.index-printing-at.result in_run, c.loop-cite.invariant.long, c.requires.listed)
+
+pub print_shown-requires-clause-within : goal.print_shown-requires-clause-within
+print_shown-requires-clause-within g c =
+    let run = c.args.printing.cites.run.now in
+    let a = c.cite-item.result in
+    let is_index : a.cite.cite ≡ (get_or c.args.arranged.now c.loop-cite.cite-index a).cite.cite = ap (λ b. b.cite.cite) c.cite-item.is in
+    let low = c.requires.indices c.loop-cite.cite-index a c.loop-cite-test.true in
+    let in_run : a.cite.cite < length run = omega (arith, is_index, low, c.requires.printing.in_step.run) in
+    omega (arith, c.requires.printing.within a.cite.cite c.index-printing-at.result in_run)
+
 pub print_shown-requires-clause-printed : goal.print_shown-requires-clause-printed
 print_shown-requires-clause-printed g c =
     let answers = g.T.EntryLike.answers in
@@ -79,7 +103,7 @@ print_shown-requires-clause-printed g c =
     let a = c.cite-item.result in
     let at = a.cite.cite in
     let item = c.index-item.result.now in
-    let own = get_or run at no_cite in
+    let own = get_or run at c.index-printing-at.result in
     let is_index : at ≡ (get_or c.args.arranged.now c.loop-cite.cite-index a).cite.cite = ap (λ b. b.cite.cite) c.cite-item.is in
     let low = c.requires.indices c.loop-cite.cite-index a c.loop-cite-test.true in
     let in_items : at < length items = omega (arith, is_index, low) in
@@ -96,7 +120,7 @@ print_shown-requires-clause-printed g c =
           (left_is prints at first in_prints (get_or_default prints at read first in_prints)
           ∙ ap (λ r. r.tree)
           (element_view printed_view (printed_by_states states) prints (numbered_cites_view answers x items run) at first cite c.requires.printed (slice_get-get_or prints at read in_prints)
-          (run_at answers x items run at item own in_items in_run c.index-item.ensures (get_or_default run at no_cite own in_run))))
+          (run_at answers x items run at item own in_items in_run c.index-item.ensures (ap (λ (m : NumberedCite). get_or run at m) c.index-printing-at.is))))
           (c.loop-cite.invariant.left at);
     }
 
@@ -111,12 +135,12 @@ loop-cite-preserved g c =
     let a = c.cite-item.result in
     let at = a.cite.cite in
     let item = c.index-item.result.now in
-    let own = get_or run at no_cite in
+    let own = get_or run at c.index-printing-at.result in
     let is_index : at ≡ (get_or c.args.arranged.now n a).cite.cite = ap (λ b. b.cite.cite) c.cite-item.is in
     let low = c.requires.indices n a c.loop-cite-test.true in
     let in_items : at < length items = omega (arith, is_index, low) in
     let in_run : at < length run = omega (arith, in_items, c.requires.printing.in_step.run) in
-    let is_own : own ≡ get_or run at own = get_or_default run at no_cite own in_run in
+    let is_own : own ≡ get_or run at own = ap (λ (m : NumberedCite). get_or run at m) c.index-printing-at.is in
     let is_item : item ≡ get_or items at item = c.index-item.ensures in
     let long : length usages_now ≡ length items = ap length c.requires.printing.usages ∙ length-map (numbered_cites_view answers x items run) usage_of ∙ run_long answers x items run c.requires.printing.in_step.run in
     let in_usages : at < length usages_now = omega (arith, in_items, long) in
@@ -126,10 +150,13 @@ loop-cite-preserved g c =
     let many = prints_long answers printed_view x states items run prints c.requires.printing.in_step.run c.requires.printed in
     let in_printed : at < length c.loop-cite.printed = omega (arith, in_items, many, c.loop-cite.invariant.cites) in
     let whole = fold (placed_with g.P.PartialEq.eq states) (placed_view answers states [] c.args.listed.now c.args.last.now) (arranged_in (map first_print (numbered_cites_view answers x items run)) (map view_of c.args.arranged.now)) in
+    let after_one : c.args.printing.style.now.ibid_after_one ≡ x.style.citation.ibid_after_one =
+    ap (λ (k : Citation). k.ibid_after_one) (c.requires.printing.style ∙ ap (λ (y : StyleContext). y.style.citation) (sym c.requires.printing.in_step.context)) in
     record {
-      same = placed_goes_on answers x (citation_layout_view c.args.printing.style.now) states g.P.PartialEq.eq (record { item = c.index-item.result; cite = own; ibid = c.ibid_at_last.result; usage = get_or usages_now at usages.None }) a
-          (map first_print (numbered_cites_view answers x items run)) c.args.arranged.now n c.loop-cite.shown.items c.print_shown.new.shown.items c.loop-cite.listed c.list.new.listed c.loop-cite.last (record { item = c.index-item.result; entry = own.entry }) whole c.loop-cite-test.true c.cite-item.is
-          (print_at answers x items run at item own in_items in_run is_item is_own) c.loop-cite.invariant.same c.ibid_at_last.ensures
+      same = placed_goes_on answers x (citation_layout_view c.args.printing.style.now) states g.P.PartialEq.eq (record { item = c.index-item.result; cite = own; ibid = c.ibid_of.result; usage = get_or usages_now at usages.None }) a
+          (map first_print (numbered_cites_view answers x items run)) c.args.arranged.now n c.loop-cite.shown.items c.print_shown.new.shown.items c.loop-cite.listed c.list.new.listed c.loop-cite.last (record { item = c.index-item.result; entry = own.entry; index = own.index }) whole c.loop-cite-test.true c.cite-item.is
+          (print_at answers x items run at item own in_items in_run is_item is_own) c.loop-cite.invariant.same
+          (c.ibid_of.ensures answers counts_at_last (all_count answers c.loop-cite.last) ∙ ap (λ b. ibid_at g.P.PartialEq.eq counts_at_last b own.index (last_cite_view answers c.loop-cite.last) (item_view (λ e. own.entry) answers item)) after_one)
           (element_plain usage_of usages_now (numbered_cites_view answers x items run) at (get_or usages_now at usages.None) (numbered_view answers x item own) c.requires.printing.usages (slice_get-get_or usages_now at usages.None in_usages) (run_at answers x items run at item own in_items in_run is_item is_own))
           (c.list.ensures states) c.in_ok-print_shown.ensures.shown refl;
       long = c.list.auto.listed ∙ c.loop-cite.invariant.long;

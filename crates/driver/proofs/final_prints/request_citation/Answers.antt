@@ -3,6 +3,7 @@ use Rattle.std.proofs.lemmas.List.{length-map}
 use Rattle.rendering.specs.Views.{style_context_view}
 use Rattle.rendering_context.specs.Views.{state_view}
 use Rattle.rendering_style.specs.Views.{citation_layout_view}
+use Rattle.rendering.specs.Words.{joining_quotes}
 use Rattle.driver_blocks.specs.Collapsing.{arranged}
 use Rattle.driver_blocks.specs.Views.{arranged_view}
 use Rattle.driver_names.specs.Views.{given_states_view, printed_view}
@@ -96,7 +97,8 @@ request_done g c =
 pub returns-clause-citation : goal.returns-clause-citation
 returns-clause-citation g c =
     let is_style = c.requires.printing.style in
-    let tree = c.in_ok-citation.ensures ∙ (λ j. citation_of (is_style j).layout (c.has_purpose-some_purpose.ensures j) ((ap (λ p. p.shown) (request_done g c).0) j)) in
+    let quotes = c.joining_quotes-quotes.ensures ∙ ap joining_quotes c.requires.printing.in_step.context in
+    let tree = c.in_ok-citation.ensures ∙ (λ j. citation_of (quotes j) (is_style j).layout (c.has_purpose-some_purpose.ensures j) ((ap (λ p. p.shown) (request_done g c).0) j)) in
     λ j. record { note_number = c.note_number.ensures j; tree = tree j }
 
 pub returns-clause-listed : goal.returns-clause-listed

@@ -5,4 +5,4 @@ use Rattle.driver_blocks.specs.Views.{blocks_view, gathered_view}
 use Rattle.driver_blocks.proofs.blocks.gather.Given as goal
 
 abbrev pub invariant-loop-cite : goal.invariant-loop-cite
-invariant-loop-cite l = (blocks_view l.blocks.items ≡ gathered is_of_block (map gathered_view (take l.cite-index l.cites))) × IsIndex l.table (blocks_view l.blocks.items)
+invariant-loop-cite l = (blocks_view l.blocks.items ≡ gathered (is_of_block l.by_text) (map gathered_view (take l.cite-index l.cites))) × IsIndex l.by_text l.table (blocks_view l.blocks.items)

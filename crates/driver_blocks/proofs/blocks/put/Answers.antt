@@ -9,11 +9,11 @@ use Rattle.driver_blocks.proofs.blocks.put.Goals as goal
 pub returns-in-None-clause-blocks : goal.returns-in-None-clause-blocks
 returns-in-None-clause-blocks c =
     let x = gathered_view c.args.cite in
-    let none : key_of_names x ≡ None = sym c.in_ok-key.ensures ∙ ap (option_map string_bytes) c.in-None.is in
-    on_ok_weaker c.put_alone.result (λ is. is ∙ sym (put_nameless x (blocks_view c.args.blocks.now.items) none)) c.put_alone.ensures
+    let none : key_of_names c.args.by_text x ≡ None = sym c.in_ok-key.ensures ∙ ap (option_map string_bytes) c.in-None.is in
+    on_ok_weaker c.put_alone.result (λ is. is ∙ sym (put_nameless c.args.by_text x (blocks_view c.args.blocks.now.items) none)) c.put_alone.ensures
 
 pub returns-in-None-clause-table : goal.returns-in-None-clause-table
 returns-in-None-clause-table c =
     let x = gathered_view c.args.cite in
-    let none : key_of_names x ≡ None = sym c.in_ok-key.ensures ∙ ap (option_map string_bytes) c.in-None.is in
-    on_ok_weaker c.put_alone.result (λ is q. c.requires q ∙ sym (indices_nameless x q (blocks_view c.args.blocks.now.items) none) ∙ ap (indices_of q 0) (sym is)) c.put_alone.ensures
+    let none : key_of_names c.args.by_text x ≡ None = sym c.in_ok-key.ensures ∙ ap (option_map string_bytes) c.in-None.is in
+    on_ok_weaker c.put_alone.result (λ is q. c.requires q ∙ sym (indices_nameless c.args.by_text x q (blocks_view c.args.blocks.now.items) none) ∙ ap (indices_of c.args.by_text q 0) (sym is)) c.put_alone.ensures

@@ -1,6 +1,6 @@
 use Rattle.std.proofs.Common.{ap, ◌∙◌}
 use Rattle.rendering_tree.specs.Views.{children_view}
-use Rattle.driver_citations.specs.Citations.{end_of}
+use Rattle.driver_citations.specs.Ends.{end_of}
 use Rattle.driver_citations.proofs.EndingTexts.{end_last}
 use Rattle.driver_citations.proofs.ending_text.+end.Goals as goal
 

@@ -1,7 +1,7 @@
 use Rattle.std.proofs.Common.{◌≡◌, ◌<◌, length, get_or, ap, sym, ◌∙◌, arith}
 use Rattle.std.proofs.lemmas.List.{get_or-map, length-map}
 use Rattle.std.proofs.lemmas.Result.{IfOk-weaker}
-use Rattle.driver_names.specs.Namesakes.{all_people, form_after, form_counted}
+use Rattle.driver_names.specs.Namesakes.{form_after, form_counted}
 use Rattle.driver_names.specs.NamesViews.{member_view, members_view}
 use Rattle.driver_names.specs.Shared.{shared_people}
 use Rattle.driver_names.proofs.NamesakesCounted.{form_counted_is, shared_of, unraised}
@@ -27,7 +27,7 @@ loop-at-preserved c =
     let at : get_or ms i (member_view m) ≡ member_view m = get_or-map member_view members i m (member_view m) low ∙ ap member_view (sym c.index-members-at.is) in
     let shared : get_or c.args.shared.now i 0 ≡ shared_people c.args.most ms (member_view m) = shared_of c.args.most ms c.args.shared.now i (member_view m) c.requires.shared within (sym at) in
     push_step member_view (form_after c.args.most ms) members i m c.loop-at.forms.items c.push.new.self.items c.form_after.result low c.index-members-at.is c.loop-at.invariant
-    (c.form_after.ensures (all_people ms) c.in_ok-counts.ensures
-    ∙ ap (λ n. form_counted (all_people ms) c.args.most n (member_view m)) shared
+    (c.form_after.ensures ms c.in_ok-counts.ensures
+    ∙ ap (λ n. form_counted ms c.args.most n (member_view m)) shared
     ∙ form_counted_is c.args.most ms i (member_view m) c.requires.order within at)
     c.in_ok-push.ensures.items

@@ -1,15 +1,21 @@
-use Rattle.std.proofs.Common.{◌≡◌, ◌==◌, sym, subst, Bor, Option, IfSome}
-use Rattle.std.specs.Option.{option_map}
-use Rattle.driver_requests.specs.Positions.{ibid_after}
+use Rattle.std.proofs.Common.{refl, sym, eq-eqb, ne_eqb}
 use Rattle.driver_requests.specs.Views.{item_view}
-use Rattle.driver_requests.specs.declared.item.CitationItem.{CitationItem}
-use Rattle.driver_requests.proofs.IbidsSame.{after_same}
+use Rattle.driver_requests.proofs.IbidsSame.{after_other, after_same, after_uncounted}
 use Rattle.driver_requests.proofs.position.ibid_after.Goals as goal
+use Rattle.driver_requests.proofs.position.ibid_after.Goals.{else-counts-via-then-counts+else-last_entry-entry, else-counts-via-else-counts}
 
-pub returns-then-is_same_entry : goal.returns-then-is_same_entry
-returns-then-is_same_entry g c = λ index answers counting.
-    let item = item_view index answers c.args.item.now in
-    subst (λ (o : Option (Bor (CitationItem g.row.T.Denot g.row.P.Denot))). IfSome o (λ l. (c.args.counts ≡ counting (item_view index answers l.now)) × (c.args.is_same_entry ≡ (index l.now.entry.now == index c.args.item.now.entry.now)))
-    → c.ibid_of_same_entry.result ≡ ibid_after g.P.PartialEq.eq counting (option_map (λ (l : Bor (CitationItem g.row.T.Denot g.row.P.Denot)). item_view index answers l.now) o) item)
-    (sym c.in-Some.is)
-    (after_same g.P.PartialEq.eq counting (item_view index answers c.in-Some.last.now) item c.args.counts c.args.is_same_entry c.ibid_of_same_entry.result c.if-counts.true c.if-is_same_entry.true (c.ibid_of_same_entry.ensures index answers))
+pub returns-then-last_entry-entry : goal.returns-then-last_entry-entry
+returns-then-last_entry-entry g c = λ answers counting counted.
+    let last = item_view (λ e. c.args.last_entry) answers c.args.last.now in
+    let item = item_view (λ e. c.args.entry) answers c.args.item.now in
+    after_same g.P.PartialEq.eq counting last item c.args.counts _ c.ibid_of_same_entry.result c.if-counts.true refl (c.ibid_of_same_entry.ensures (λ e. c.args.entry) answers)
+    (counted, sym (eq-eqb c.args.last_entry c.args.entry c.if-last_entry-entry.true))
+
+pub returns-else-counts : goal.returns-else-counts
+returns-else-counts g c = λ answers counting counted.
+    let last = item_view (λ e. c.args.last_entry) answers c.args.last.now in
+    let item = item_view (λ e. c.args.entry) answers c.args.item.now in
+    elim c.else-counts.branch [
+      | else-counts-via-then-counts+else-last_entry-entry w ↦ after_other g.P.PartialEq.eq counting last item (ne_eqb c.args.last_entry c.args.entry w.if-last_entry-entry.false)
+      | else-counts-via-else-counts w ↦ after_uncounted g.P.PartialEq.eq counting last item c.args.counts w.if-counts.false counted
+    ]

@@ -1,7 +1,8 @@
 use Rattle.std.proofs.Common.{ap, ◌++◌, map, arith}
 use Rattle.driver_names.specs.Views.{printed_view}
 use Rattle.driver_rounds.specs.CitesInStep.{all_cites}
-use Rattle.driver_rounds.specs.Views.{printed_undisambiguated, usage_of}
+use Rattle.driver_rounds.specs.FirstPrints.{printed_undisambiguated}
+use Rattle.driver_rounds.specs.Views.{usage_of}
 use Rattle.driver_rounds.proofs.CitationsLoop.{cites_count_on, cites_go_on}
 use Rattle.driver_rounds.proofs.RunsSteps.{runs_end}
 use Rattle.driver_rounds.proofs.first_printing.first_prints.Goals as goal

@@ -1,7 +1,7 @@
 use Rattle.std.proofs.Common.{◌≡◌, ◌+◌, ◌≤◌, ◌++◌, map, drop, length}
 use Rattle.driver_names.specs.Views.{printed_view}
-use Rattle.driver_rounds.specs.FirstPrints.{flattened}
-use Rattle.driver_rounds.specs.Views.{all_numbered_cites_view, printed_undisambiguated, usage_of}
+use Rattle.driver_rounds.specs.FirstPrints.{flattened, printed_undisambiguated}
+use Rattle.driver_rounds.specs.Views.{all_numbered_cites_view, usage_of}
 use Rattle.driver_rounds.proofs.first_printing.first_prints.Given as goal
 
 abbrev pub invariant-loop-index : goal.invariant-loop-index

@@ -1,8 +1,10 @@
-use Rattle.std.proofs.Common.{ap, sym, ◌∙◌, length, map, arith}
+use Rattle.std.proofs.Common.{ap, sym, ◌∙◌, get_or, length, map, arith}
 use Rattle.rendering.specs.Views.{style_context_view}
 use Rattle.driver_names.specs.Views.{printed_view}
 use Rattle.driver_requests.specs.Views.{context_of}
-use Rattle.driver_rounds.specs.Views.{printed_undisambiguated, usage_of}
+use Rattle.driver_rounds.specs.FirstPrints.{printed_undisambiguated}
+use Rattle.driver_rounds.specs.Views.{usage_of}
+use Rattle.driver_rounds.specs.declared.cite.NumberedCite.{NumberedCite}
 use Rattle.driver_rounds.proofs.RunsSteps.{one_counted, run_counts_on, run_ends, run_goes_on}
 use Rattle.driver_rounds.proofs.first_printing.print_request.Goals as goal
 
@@ -16,13 +18,15 @@ pub loop-index-preserved : goal.loop-index-preserved
 loop-index-preserved g c =
     let r = c.args.cites.request.now in
     let given = c.deref-item-items in
+    let k = get_or c.args.cites.run.now c.loop-index.index c.index-cites-index.result in
+    let also = ap (λ (m : NumberedCite). get_or c.args.cites.run.now c.loop-index.index m) c.index-cites-index.is in
     record {
-      printed = run_goes_on g.T.EntryLike.answers (context_of r) r.items.items c.args.cites.run.now printed_undisambiguated (style_context_view c.args.cites.context.now) given.result.now c.loop-index.index c.item-item.result (map printed_view c.loop-index.prints.printed.items)
-          (map printed_view c.print_cite.new.prints.printed.items) _ c.requires.context given.ensures.value c.loop-index-test.true c.requires.run c.item-item.is c.loop-index.invariant.printed c.in_ok-print_cite.ensures.printed;
-      usages = run_goes_on g.T.EntryLike.answers (context_of r) r.items.items c.args.cites.run.now usage_of (style_context_view c.args.cites.context.now) given.result.now c.loop-index.index c.item-item.result c.loop-index.prints.usages.items
-          c.print_cite.new.prints.usages.items _ c.requires.context given.ensures.value c.loop-index-test.true c.requires.run c.item-item.is c.loop-index.invariant.usages c.in_ok-print_cite.ensures.usages;
-      effort = run_counts_on g.T.EntryLike.answers (context_of r) r.items.items c.args.cites.run.now (style_context_view c.args.cites.context.now) given.result.now c.loop-index.index c.item-item.result c.loop-index.effort c.print_cite.new.effort _ c.requires.context
-          given.ensures.value c.loop-index-test.true c.requires.run c.item-item.is c.loop-index.invariant.effort (one_counted c.loop-index.effort c.print_cite.new.effort c.in_ok-print_cite.ensures.effort);
+      printed = run_goes_on g.T.EntryLike.answers (context_of r) r.items.items c.args.cites.run.now printed_undisambiguated (style_context_view c.args.cites.context.now) given.result.now c.loop-index.index c.item-item.result k (map printed_view c.loop-index.prints.printed.items)
+          (map printed_view c.print_cite.new.prints.printed.items) _ c.requires.context given.ensures.value c.loop-index-test.true c.requires.run c.item-item.is also c.loop-index.invariant.printed c.in_ok-print_cite.ensures.printed;
+      usages = run_goes_on g.T.EntryLike.answers (context_of r) r.items.items c.args.cites.run.now usage_of (style_context_view c.args.cites.context.now) given.result.now c.loop-index.index c.item-item.result k c.loop-index.prints.usages.items
+          c.print_cite.new.prints.usages.items _ c.requires.context given.ensures.value c.loop-index-test.true c.requires.run c.item-item.is also c.loop-index.invariant.usages c.in_ok-print_cite.ensures.usages;
+      effort = run_counts_on g.T.EntryLike.answers (context_of r) r.items.items c.args.cites.run.now (style_context_view c.args.cites.context.now) given.result.now c.loop-index.index c.item-item.result k c.loop-index.effort c.print_cite.new.effort _ c.requires.context
+          given.ensures.value c.loop-index-test.true c.requires.run c.item-item.is also c.loop-index.invariant.effort (one_counted c.loop-index.effort c.print_cite.new.effort c.in_ok-print_cite.ensures.effort);
     }
 
 pub returns-clause-printed : goal.returns-clause-printed

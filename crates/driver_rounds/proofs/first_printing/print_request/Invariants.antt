@@ -1,7 +1,8 @@
 use Rattle.std.proofs.Common.{◌≡◌, ◌+◌, ◌≤◌, ◌++◌, map, drop, length}
 use Rattle.driver_names.specs.Views.{printed_view}
 use Rattle.driver_requests.specs.Views.{context_of}
-use Rattle.driver_rounds.specs.Views.{numbered_cites_view, printed_undisambiguated, usage_of}
+use Rattle.driver_rounds.specs.FirstPrints.{printed_undisambiguated}
+use Rattle.driver_rounds.specs.Views.{numbered_cites_view, usage_of}
 use Rattle.driver_rounds.proofs.first_printing.print_request.Given as goal
 
 abbrev pub invariant-loop-index : goal.invariant-loop-index

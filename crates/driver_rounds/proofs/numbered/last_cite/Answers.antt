@@ -8,5 +8,5 @@ returns g c =
     let items = c.args.request.now.items.items in
     let n = c.len-count.result - 1 in
     let many : length items ≡ n + 1 = search rules in
-    last_there g.T.EntryLike.answers (last_item g.T.EntryLike.answers c.args.last_entry c.args.last) items c.args.indices.now c.index-items-index.result n c.requires many
+    last_there g.T.EntryLike.answers (last_item g.T.EntryLike.answers c.args.last) items c.args.indices.now c.index-items-index.result n c.requires many
     (c.index-items-index.is ∙ ap (λ xs. get_or xs n c.index-items-index.result) c.as_slice-items.ensures.value)

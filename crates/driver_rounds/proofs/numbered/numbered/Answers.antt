@@ -36,8 +36,8 @@ numbered_request-requires-clause-within g c =
     let here : c.loop-index.index < length c.args.indices.now = omega (arith, many, c.loop-index-test.true) in
     indices_within c.args.indices.now (length c.args.numbers.now) c.loop-index.index c.index-indices-index.result c.as_slice-own_indices.result.now here c.index-indices-index.is c.as_slice-own_indices.ensures.value c.requires.within
 
-pub last_cite-next-requires : goal.last_cite-next-requires
-last_cite-next-requires g c =
+pub last_cite-last-requires : goal.last_cite-last-requires
+last_cite-last-requires g c =
     ap length c.as_slice-own_indices.ensures.value
     ∙ long_at (λ (v : Vec ℕ Global). length v.items) (λ (r : CitationRequest g.row.T.Denot g.row.P.Denot). length r.items.items) c.args.indices.now c.args.requests.now c.loop-index.index c.index-indices-index.result c.index-requests-index.result
     c.requires.indices c.loop-index-test.true c.index-indices-index.is c.index-requests-index.is
@@ -61,8 +61,8 @@ loop-index-preserved g c =
     c.index-requests-index.is in
     record {
       viewed = runs_go_on g.T.EntryLike.answers g.P.PartialEq.eq (λ p. slice_index c.args.numbers.now p) requests indices facts all new n r c.index-indices-index.result c.index-facts-index.result c.as_slice-own_indices.result.now
-          c.as_slice-own_facts.result.now run (last_item g.T.EntryLike.answers c.loop-index.last_entry c.loop-index.last) _ _ c.loop-index.invariant.long c.loop-index-test.true b f c.index-requests-index.is c.index-indices-index.is
-          c.index-facts-index.is c.as_slice-own_indices.ensures.value c.as_slice-own_facts.ensures.value many c.in_ok-run.ensures.cites c.last_cite-next.ensures c.in_ok-push.ensures.items c.loop-index.invariant.viewed;
+          c.as_slice-own_facts.result.now run (last_item g.T.EntryLike.answers c.loop-index.last) _ _ c.loop-index.invariant.long c.loop-index-test.true b f c.index-requests-index.is c.index-indices-index.is
+          c.index-facts-index.is c.as_slice-own_indices.ensures.value c.as_slice-own_facts.ensures.value many c.in_ok-run.ensures.cites c.last_cite-last.ensures c.in_ok-push.ensures.items c.loop-index.invariant.viewed;
       entries = read_goes_on (λ (v : Vec NumberedCite Global). map entry_at v.items) (λ (v : Vec ℕ Global). v.items) indices all new n c.index-indices-index.result run _ b c.index-indices-index.is c.loop-index.invariant.entries
           (c.in_ok-run.ensures.entries ∙ c.as_slice-own_indices.ensures.value) c.in_ok-push.ensures.items;
       long = ap length c.in_ok-push.ensures.items ∙ length-append all _ ∙ ap (λ m. m + 1) c.loop-index.invariant.long;
@@ -71,7 +71,7 @@ loop-index-preserved g c =
 pub returns-clause-cites : goal.returns-clause-cites
 returns-clause-cites g c =
     runs_end g.T.EntryLike.answers g.P.PartialEq.eq (λ p. slice_index c.args.numbers.now p) c.args.requests.now c.args.indices.now c.args.facts.now c.loop-index.all.items c.loop-index.index
-    (last_item g.T.EntryLike.answers c.loop-index.last_entry c.loop-index.last) _ (omega (arith, c.loop-index-test.false)) c.loop-index.invariant.viewed
+    (last_item g.T.EntryLike.answers c.loop-index.last) _ (omega (arith, c.loop-index-test.false)) c.loop-index.invariant.viewed
 
 pub returns-clause-entries : goal.returns-clause-entries
 returns-clause-entries g c =

@@ -13,11 +13,11 @@ returns-then-contains c =
     let k = c.args.kind in
     let ks = c.args.found.now.kinds.items in
     let there : is_among ks k ≡ true = sym (c.contains.ensures.value ∙ ap (λ ls. is_among ls k) c.deref.ensures.value) ∙ c.if-contains.true in
-    λ i. record { variables = c.args.found.now.variables.items; kinds = cond (sym there i) ks (ks ++ k ∷ []) }
+    λ i. record { variables = c.args.found.now.variables.items; kinds = cond (sym there i) ks (ks ++ k ∷ []); written = c.args.found.now.written.items }
 
 pub returns : goal.returns
 returns c =
     let k = c.args.kind in
     let ks = c.args.found.now.kinds.items in
     let none : is_among ks k ≡ false = sym (c.contains.ensures.value ∙ ap (λ ls. is_among ls k) c.deref.ensures.value) ∙ c.if-contains.false in
-    λ i. record { variables = c.args.found.now.variables.items; kinds = (c.in_ok-push.ensures.items ∙ ap (λ (b : Bool). cond b ks (ks ++ k ∷ [])) (sym none)) i }
+    λ i. record { variables = c.args.found.now.variables.items; kinds = (c.in_ok-push.ensures.items ∙ ap (λ (b : Bool). cond b ks (ks ++ k ∷ [])) (sym none)) i; written = c.args.found.now.written.items }

@@ -11,7 +11,7 @@ returns-then-contains c =
     let vs = c.args.found.now.variables.items in
     let there : is_among vs v ≡ true =
     sym (c.contains.ensures.value ∙ (λ i. list_any (λ (w : Variable). same_variable v w i) (c.deref.ensures.value i))) ∙ c.if-contains.true in
-    λ i. record { variables = cond (sym there i) vs (vs ++ v ∷ []); kinds = c.args.found.now.kinds.items }
+    λ i. record { variables = cond (sym there i) vs (vs ++ v ∷ []); kinds = c.args.found.now.kinds.items; written = c.args.found.now.written.items }
 
 pub returns : goal.returns
 returns c =
@@ -19,4 +19,4 @@ returns c =
     let vs = c.args.found.now.variables.items in
     let none : is_among vs v ≡ false =
     sym (c.contains.ensures.value ∙ (λ i. list_any (λ (w : Variable). same_variable v w i) (c.deref.ensures.value i))) ∙ c.if-contains.false in
-    λ i. record { variables = (c.in_ok-push.ensures.items ∙ ap (λ (b : Bool). cond b vs (vs ++ v ∷ [])) (sym none)) i; kinds = c.args.found.now.kinds.items }
+    λ i. record { variables = (c.in_ok-push.ensures.items ∙ ap (λ (b : Bool). cond b vs (vs ++ v ∷ [])) (sym none)) i; kinds = c.args.found.now.kinds.items; written = c.args.found.now.written.items }

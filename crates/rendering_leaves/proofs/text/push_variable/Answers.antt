@@ -1,7 +1,8 @@
 use Rattle.std.proofs.Common.{List, ap, ◌∙◌}
 use Rattle.std.proofs.lemmas.Result.{on_ok_weaker}
-use Rattle.rendering_context.specs.Answering.{answer_to}
+use Rattle.rendering_context.specs.Answering.{text_answer_to}
 use Rattle.rendering_context.specs.Views.{context_view}
+use Rattle.rendering_leaves.specs.Quoted.{requoted}
 use Rattle.rendering_leaves.specs.Views.{setting_view}
 use Rattle.rendering_leaves.proofs.LeavesAppended.{variable-appended}
 use Rattle.rendering_style.specs.Views.{text_look_view}
@@ -16,7 +17,8 @@ returns g c =
     let look = text_look_view c.args.look.now in
     let v = c.args.variable in
     let form = c.args.form in
-    let answer = c.in_ok-answer.ensures ∙ ap (λ (vs : List Variable). answer_to ctx vs form v) c.deref.ensures.value in
+    let answer = c.in_ok-answer.ensures ∙ ap (λ (vs : List Variable). text_answer_to ctx vs form v) c.deref.ensures.value in
+    let printed = c.in_ok-printed.ensures ∙ (λ i. requoted ctx (c.are_inner-inner.ensures i) (answer i)) in
     on_ok_weaker c.after_variable.result
-    (variable-appended ctx s c.args.state.now _ c.state.view_is _ v form look _ _ answer (c.in_ok-append_variable.ensures a))
+    (variable-appended ctx s c.args.state.now _ c.state.view_is _ v form look _ _ printed (c.in_ok-append_variable.ensures a))
     (c.after_variable.ensures a)

@@ -2,5 +2,5 @@ use Rattle.std.proofs.Common.{nat_lt}
 use Rattle.driver_names.proofs.namesakes.NameCounts.has_namesake.Goals as goal
 
 pub returns : goal.returns
-returns c = λ all says.
-    λ k. nat_lt (c.namesakes.ensures k) (c.namesakes-2.ensures all says k)
+returns c = λ ms says.
+    λ k. nat_lt (c.own_namesakes.ensures ms says k) (c.namesakes_within.ensures ms says k)

@@ -1,4 +1,4 @@
-use Rattle.std.proofs.Common.{◌≡◌, ◌&&◌, Bool, List, [], map, refl, sym, ap, ◌∙◌}
+use Rattle.std.proofs.Common.{◌&&◌, List, map, refl, sym, ap, ◌∙◌}
 use Rattle.std.specs.Option.{option_and_then}
 use Rattle.rendering_locale.specs.Locales as locales
 use Rattle.rendering_locale.specs.Views.{part_view}

@@ -8,5 +8,5 @@ use Rattle.rendering_names.proofs.style.NameStyle.push_variables.Given as goal
 
 abbrev pub invariant-loop-index : goal.invariant-loop-index
 invariant-loop-index l =
-    (l.page ≡ append_here l.self (flat_map (indexed_variable (name_style_view l.self) (names_parts_view l.node)) (take l.index (enumerate_from 0 (zip (cut l.counts l.forms) (all_lent_answered_view l.people))))) l.initial.page)
+    (l.page ≡ append_here l.self (flat_map (indexed_variable (name_style_view l.self) (names_parts_view l.node) (all_lent_answered_view l.people)) (take l.index (enumerate_from 0 (zip (cut l.counts l.forms) (all_lent_answered_view l.people))))) l.initial.page)
     × (drop l.index (cut l.counts l.forms) ≡ cut (drop l.index l.counts) l.rest)

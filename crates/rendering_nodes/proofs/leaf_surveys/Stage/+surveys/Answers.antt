@@ -192,14 +192,14 @@ survey_names-returns-then-branch g t c =
     (each_node (open_node c.args.levels (macros_of c.args.self.now.walk.now)) (nodes_view c.args.substitute.now)) c.in_ok-has_people.field-0 c.allows_names.result
     c.in_ok-has_people.ensures c.if-branch.true c.of_variable.ensures c.allows_names.ensures
 
-pub survey_names-returns-then-excludes : goal.survey_names-returns-then-excludes
-survey_names-returns-then-excludes g t c =
-    names_shut_out (stage_view (g.E.EntryLike.answers c.args.entry.now) c.args.self.now) c.args.findings.now.items (survey_view c.of_variable-then-excludes.result) (names_node_view c.args.names.now)
-    (each_node (open_node c.args.levels (macros_of c.args.self.now.walk.now)) (nodes_view c.args.substitute.now)) c.in_ok-has_people.field-0 c.excludes.result
-    c.in_ok-has_people.ensures c.if-branch.false c.excludes.ensures c.if-excludes.true c.of_variable-then-excludes.ensures
+pub survey_names-returns-then-is_shut_out : goal.survey_names-returns-then-is_shut_out
+survey_names-returns-then-is_shut_out g t c =
+    names_shut_out (stage_view (g.E.EntryLike.answers c.args.entry.now) c.args.self.now) c.args.findings.now.items (survey_view c.of_variable-then-is_shut_out.result) (names_node_view c.args.names.now)
+    (each_node (open_node c.args.levels (macros_of c.args.self.now.walk.now)) (nodes_view c.args.substitute.now)) c.in_ok-has_people.field-0 c.in_ok-is_shut_out.is_shut_out
+    c.in_ok-has_people.ensures c.if-branch.false c.in_ok-is_shut_out.ensures c.if-is_shut_out.true c.of_variable-then-is_shut_out.ensures
 
 pub survey_names-returns : goal.survey_names-returns
 survey_names-returns g t c =
     names_substituted (stage_view (g.E.EntryLike.answers c.args.entry.now) c.args.self.now) c.args.findings.now.items c.survey_all.new.findings.items (survey_view c.of_substitute.result) (survey_view c.in_ok-inside.inside) (names_node_view c.args.names.now)
-    (each_node (open_node c.args.levels (macros_of c.args.self.now.walk.now)) (nodes_view c.args.substitute.now)) c.in_ok-has_people.field-0 c.excludes.result
-    c.in_ok-has_people.ensures c.if-branch.false c.excludes.ensures c.if-excludes.false c.of_substitute.ensures c.in_ok-inside.ensures
+    (each_node (open_node c.args.levels (macros_of c.args.self.now.walk.now)) (nodes_view c.args.substitute.now)) c.in_ok-has_people.field-0 c.in_ok-is_shut_out.is_shut_out
+    c.in_ok-has_people.ensures c.if-branch.false c.in_ok-is_shut_out.ensures c.if-is_shut_out.false c.of_substitute.ensures c.in_ok-inside.ensures

@@ -4,15 +4,19 @@ use Rattle.std.proofs.lemmas.Result.{IfOk-weaker, on_ok_weaker}
 use Rattle.rendering_leaves.specs.NodeSettings.{NodeSetting, State}
 use Rattle.rendering_leaves.specs.Views.{setting_view}
 use Rattle.rendering_names.specs.Views.{names_parts_view}
+use Rattle.rendering_nodes.specs.Content.{append_people}
 use Rattle.rendering_nodes.specs.Findings.{AreFoundInside}
+use Rattle.rendering_nodes.specs.Turns.{substituted}
 use Rattle.rendering_nodes.specs.Views.{macros_of, walk_context}
+use Rattle.rendering_page.specs.Views.{frame_view}
+use Rattle.rendering_people.specs.Views.{all_lent_answered_view}
 use Rattle.rendering_style.specs.Nodes as nodes
 use Rattle.rendering_style.specs.Opening.{each_branch, each_node, macro_named, open_node, part}
 use Rattle.rendering_style.specs.Views.{branch_view, branches_of, group_node_view, names_node_view, node_view, nodes_view, text_node_view, text_look_view}
 use Rattle.rendering_style.specs.declared.node.ChooseBranch.{ChooseBranch}
 use Rattle.rendering_style.specs.declared.node.Node.{Node}
 use Rattle.rendering_style.specs.declared.node.TextTarget.{TextTarget}
-use Rattle.rendering_nodes.proofs.ContentSteps.{and_else, and_then, choose_appended, contents_more, next_admitted, next_passed, substitute_more}
+use Rattle.rendering_nodes.proofs.ContentSteps.{and_else, and_then, choose_appended, contents_more, delimited_by, delimited_in, delimited_on, next_admitted, next_passed, substitute_more}
 use Rattle.rendering_nodes.proofs.FindingsAppended.{form_as, inside_as, known_more, macro_as, macro_some, substitutes_as, taken_as}
 use Rattle.rendering_nodes.proofs.OpenedSteps.{open_text, open_names, open_choose, open_group}
 use Rattle.rendering_nodes.proofs.OpenedAppended.{names_node_appended, choose_node_appended, group_node_appended, macro_appended, grouped_appended}
@@ -72,21 +76,27 @@ push_choose-returns g t c = λ outer.
 
 pub push_names-returns-then-is_empty : goal.push_names-returns-then-is_empty
 push_names-returns-then-is_empty g t c =
+    let k = walk_context (g.E.EntryLike.answers c.args.entry.now) c.args.self.now in
+    let s = setting_view c.args.setting.now in
+    let xs = each_node (open_node c.args.levels (macros_of c.args.self.now)) (nodes_view c.args.substitute.now) in
     on_ok_weaker c.push_substitute.result
-    (names_without (walk_context (g.E.EntryLike.answers c.args.entry.now) c.args.self.now) (setting_view c.args.setting.now) (names_parts_view c.args.parts.now)
-    (each_node (open_node c.args.levels (macros_of c.args.self.now)) (nodes_view c.args.substitute.now)) c.as_slice.result.now c.in_ok-people.people.items c.in_ok-people.people.len c.is_empty.result
+    (λ e. names_without k s (names_parts_view c.args.parts.now) xs c.as_slice.result.now c.in_ok-people.people.items c.in_ok-people.people.len c.is_empty.result
     c.args.state.now c.push_substitute.new.state (c.as_slice.ensures.value ∙ ap (λ (st : State). st.suppressed) c.state.view_is)
-    c.in_ok-people.ensures c.in_ok-people.people.ok.0 c.is_empty.ensures c.if-is_empty.true)
+    c.in_ok-people.ensures c.in_ok-people.people.ok.0 c.is_empty.ensures c.if-is_empty.true
+    (e ∙ ap (λ (h : nodes.NamesNode). substituted k s h xs c.args.state.now) c.names_in-own.ensures))
     c.push_substitute.ensures
 
 pub push_names-returns : goal.push_names-returns
 push_names-returns g t c =
     let a = g.E.EntryLike.answers c.args.entry.now in
+    let k = walk_context a c.args.self.now in
+    let s = setting_view c.args.setting.now in
     on_ok_weaker c.push_people.result
-    (names_with (walk_context a c.args.self.now) (setting_view c.args.setting.now) (names_parts_view c.args.parts.now)
+    (λ e. names_with k s (names_parts_view c.args.parts.now)
     (each_node (open_node c.args.levels (macros_of c.args.self.now)) (nodes_view c.args.substitute.now)) c.as_slice.result.now c.in_ok-people.people.items c.as_slice-2.result.now
     c.in_ok-people.people.len c.is_empty.result c.args.state.now c.push_people.new.state (c.as_slice.ensures.value ∙ ap (λ (st : State). st.suppressed) c.state.view_is)
-    c.in_ok-people.ensures c.in_ok-people.people.ok.0 c.is_empty.ensures c.if-is_empty.false c.as_slice-2.ensures.value)
+    c.in_ok-people.ensures c.in_ok-people.people.ok.0 c.is_empty.ensures c.if-is_empty.false c.as_slice-2.ensures.value
+    (e ∙ ap (λ (h : nodes.NamesNode). append_people k s h (all_lent_answered_view c.as_slice-2.result.now) c.args.state.now) c.names_in-own.ensures))
     (c.push_people.ensures a)
 
 pub push_substitute-returns : goal.push_substitute-returns
@@ -275,10 +285,51 @@ push_found-returns-then-not-admits-clause-state g t c =
     let x = open_node c.args.levels (macros_of c.args.self.now) (node_view c.args.node.now) in
     next_passed k s c.args.is_first c.admits.result x c.args.state.now c.admits.new.state (c.admits.ensures.admitted k s x c.requires) c.if-not-admits.true (c.admits.ensures.state k s x c.requires)
 
-pub push_found-push_node-requires : goal.push_found-push_node-requires
-push_found-push_node-requires g t c =
+pub push_found-push_admitted-requires : goal.push_found-push_admitted-requires
+push_found-push_admitted-requires g t c =
     let known = c.requires.inside in
     search rules
+
+pub push_admitted-push_delimited-requires : goal.push_admitted-push_delimited-requires
+push_admitted-push_delimited-requires g t c =
+    let known = c.requires in
+    search rules
+
+pub push_admitted-push_node-requires : goal.push_admitted-push_node-requires
+push_admitted-push_node-requires g t c =
+    let known = c.requires in
+    search rules
+
+pub push_delimited-push_node-requires : goal.push_delimited-push_node-requires
+push_delimited-push_node-requires g t c =
+    let known = c.requires in
+    search rules
+
+pub push_admitted-returns-then-delimits_printed : goal.push_admitted-returns-then-delimits_printed
+push_admitted-returns-then-delimits_printed g t c =
+    let k = walk_context (g.E.EntryLike.answers c.args.entry.now) c.args.self.now in
+    let x = open_node c.args.levels (macros_of c.args.self.now) (node_view c.args.node.now) in
+    on_ok_weaker c.push_delimited.result
+    (delimited_in k (setting_view c.args.setting.now) c.args.is_first c.delimits_printed.result x c.args.state.now c.push_delimited.new.state c.delimits_printed.ensures c.if-delimits_printed.true)
+    c.push_delimited.ensures
+
+pub push_admitted-returns : goal.push_admitted-returns
+push_admitted-returns g t c =
+    let a = g.E.EntryLike.answers c.args.entry.now in
+    let x = open_node c.args.levels (macros_of c.args.self.now) (node_view c.args.node.now) in
+    on_ok_weaker c.push_node.result
+    (delimited_on (walk_context a c.args.self.now) (setting_view c.args.setting.now) c.args.is_first c.delimits_printed.result x c.args.state.now c.push_delimiter.new.state c.push_node.new.state
+    c.delimits_printed.ensures c.if-delimits_printed.false (c.in_ok-push_delimiter.ensures a))
+    c.push_node.ensures
+
+pub push_delimited-returns : goal.push_delimited-returns
+push_delimited-returns g t c =
+    let a = g.E.EntryLike.answers c.args.entry.now in
+    let x = open_node c.args.levels (macros_of c.args.self.now) (node_view c.args.node.now) in
+    on_ok_weaker c.end_delimited.result
+    (delimited_by (walk_context a c.args.self.now) (setting_view c.args.setting.now) x (frame_view c.delimited_frame-frame.result) c.args.state.now c.begin_delimited.new.state c.push_node.new.state c.end_delimited.new.state
+    c.delimited_frame-frame.ensures (c.in_ok-begin_delimited.ensures a) c.in_ok-push_node.ensures)
+    (c.end_delimited.ensures a)
 
 pub push_found-returns-clause-admitted : goal.push_found-returns-clause-admitted
 push_found-returns-clause-admitted g t c =
@@ -289,12 +340,11 @@ push_found-returns-clause-admitted g t c =
 
 pub push_found-returns-clause-state : goal.push_found-returns-clause-state
 push_found-returns-clause-state g t c =
-    let a = g.E.EntryLike.answers c.args.entry.now in
     let k = walk_context (g.E.EntryLike.answers c.args.entry.now) c.args.self.now in
     let s = setting_view c.args.setting.now in
     let x = open_node c.args.levels (macros_of c.args.self.now) (node_view c.args.node.now) in
-    next_admitted k s c.args.is_first c.admits.result x c.args.state.now c.admits.new.state c.push_delimiter.new.state c.push_node.new.state
-    (c.admits.ensures.admitted k s x c.requires) c.if-not-admits.false (c.admits.ensures.state k s x c.requires) (c.in_ok-push_delimiter.ensures a) c.in_ok-push_node.ensures
+    next_admitted k s c.args.is_first c.admits.result x c.args.state.now c.admits.new.state c.push_admitted.new.state
+    (c.admits.ensures.admitted k s x c.requires) c.if-not-admits.false (c.admits.ensures.state k s x c.requires) c.in_ok-push_admitted.ensures
 
 pub push_tried-returns-then-not-admits-clause-printed : goal.push_tried-returns-then-not-admits-clause-printed
 push_tried-returns-then-not-admits-clause-printed g t c =

@@ -12,26 +12,32 @@ use Rattle.rendering_nodes.proofs.style_walk.Walk.+contents.Given as goal
 abbrev pub decreases-push_node : goal.decreases-push_node
 decreases-push_node g l = 16 * l.levels
 
-abbrev pub decreases-push_next : goal.decreases-push_next
-decreases-push_next g l = 16 * l.levels + 2
+abbrev pub decreases-push_delimited : goal.decreases-push_delimited
+decreases-push_delimited g l = 16 * l.levels + 1
+
+abbrev pub decreases-push_admitted : goal.decreases-push_admitted
+decreases-push_admitted g l = 16 * l.levels + 2
 
 abbrev pub decreases-push_found : goal.decreases-push_found
-decreases-push_found g l = 16 * l.levels + 1
+decreases-push_found g l = 16 * l.levels + 3
+
+abbrev pub decreases-push_next : goal.decreases-push_next
+decreases-push_next g l = 16 * l.levels + 4
 
 abbrev pub decreases-push_all : goal.decreases-push_all
-decreases-push_all g l = 16 * l.levels + 3
+decreases-push_all g l = 16 * l.levels + 5
 
 abbrev pub decreases-push_choose : goal.decreases-push_choose
-decreases-push_choose g l = 16 * l.levels + 4
+decreases-push_choose g l = 16 * l.levels + 6
 
 abbrev pub decreases-push_group : goal.decreases-push_group
-decreases-push_group g l = 16 * l.levels + 4
+decreases-push_group g l = 16 * l.levels + 6
 
 abbrev pub decreases-push_macro : goal.decreases-push_macro
-decreases-push_macro g l = 16 * l.levels + 4
+decreases-push_macro g l = 16 * l.levels + 6
 
 abbrev pub decreases-push_text : goal.decreases-push_text
-decreases-push_text g l = 16 * l.levels + 5
+decreases-push_text g l = 16 * l.levels + 7
 
 abbrev pub decreases-tried : goal.decreases-tried
 decreases-tried g l = 16 * l.levels + 1

@@ -1,16 +1,15 @@
-use Rattle.std.proofs.Common.{is_some, sym, ap, ◌∙◌}
+use Rattle.std.proofs.Common.{is_some, sym, ap, ◌∙◌, Bor, Option}
 use Rattle.std.proofs.lemmas.Result.{on_ok_weaker}
 use Rattle.rendering_context.specs.Cites.{names_of}
-use Rattle.rendering_context.specs.Views.{state_view}
-use Rattle.rendering_context.specs.declared.cite.DisambiguateState.{DisambiguateState}
+use Rattle.rendering_context.specs.Views.{lent_names}
 use Rattle.rendering_leaves.specs.NodeSettings.{State}
 use Rattle.rendering_leaves.specs.Views.{setting_view}
-use Rattle.rendering_people.specs.Properties.{raised_to}
+use Rattle.rendering_people.specs.Properties.{Properties, raised_to}
 use Rattle.rendering_people.specs.Views.{all_lent_answered_view}
 use Rattle.rendering_names.specs.Views.{names_parts_view}
 use Rattle.rendering_nodes.specs.Content.{disambiguated}
 use Rattle.rendering_nodes.specs.Views.{walk_context}
-use Rattle.rendering_nodes.proofs.ElementsSteps.{shown_as, disambiguated_some, disambiguated_none, raised_by_names}
+use Rattle.rendering_nodes.proofs.ElementsSteps.{shown_as, disambiguated_some, disambiguated_none, raised_none}
 use Rattle.rendering_nodes.proofs.style_walk.Walk.push_disambiguated.Goals as goal
 
 pub returns-then-is_some : goal.returns-then-is_some
@@ -22,22 +21,25 @@ returns-then-is_some c = λ a.
     (disambiguated_some context c.args.state.now.names c.args.own.now (ap (λ (st : State). is_some st.names) (sym c.state.view_is) ∙ (sym c.is_some.ensures ∙ c.if-is_some.true))))
     (c.push_shown.ensures a)
 
-pub returns-in-NameDisambiguation : goal.returns-in-NameDisambiguation
-returns-in-NameDisambiguation c = λ a.
+pub returns-in-Some : goal.returns-in-Some
+returns-in-Some c = λ a.
     let context = walk_context a c.args.self.now in
-    on_ok_weaker c.push_raised.result
-    (shown_as context (setting_view c.args.setting.now) (names_parts_view c.args.names.now) (raised_to c.in-NameDisambiguation.others c.args.own.now) (disambiguated context c.args.state.now.names c.args.own.now)
-    (all_lent_answered_view c.args.people.now) c.args.state.now c.push_raised.new.state
-    (ap (λ (d : DisambiguateState). raised_to (names_of (state_view d)) c.args.own.now) (sym c.in-NameDisambiguation.is)
+    let more = raised_to (names_of context.properties.disambiguation) in
+    on_ok_weaker c.push_named.result
+    (shown_as context (setting_view c.args.setting.now) (names_parts_view c.args.names.now) (more (raised_to c.in-Some.first.now c.args.own.now)) (disambiguated context c.args.state.now.names c.args.own.now)
+    (all_lent_answered_view c.args.people.now) c.args.state.now c.push_named.new.state
+    (ap (λ (o : Option (Bor Properties)). more (raised_to (lent_names o) c.args.own.now)) (sym c.in-Some.is)
     ∙ disambiguated_none context c.args.state.now.names c.args.own.now (ap (λ (st : State). is_some st.names) (sym c.state.view_is) ∙ (sym c.is_some.ensures ∙ c.if-is_some.false))))
-    (c.push_raised.ensures a)
+    (c.push_named.ensures a)
 
-pub returns-in_default : goal.returns-in_default
-returns-in_default c = λ a.
+pub returns-in-None : goal.returns-in-None
+returns-in-None c = λ a.
     let context = walk_context a c.args.self.now in
-    on_ok_weaker c.push_shown-in_default.result
-    (shown_as context (setting_view c.args.setting.now) (names_parts_view c.args.names.now) c.args.own.now (disambiguated context c.args.state.now.names c.args.own.now)
-    (all_lent_answered_view c.args.people.now) c.args.state.now c.push_shown-in_default.new.state
-    (raised_by_names c.args.self.now.context.properties.now.disambiguation c.args.own.now c.in_default.not-NameDisambiguation
+    let more = raised_to (names_of context.properties.disambiguation) in
+    on_ok_weaker c.push_in_state.result
+    (shown_as context (setting_view c.args.setting.now) (names_parts_view c.args.names.now) (more c.args.own.now) (disambiguated context c.args.state.now.names c.args.own.now)
+    (all_lent_answered_view c.args.people.now) c.args.state.now c.push_in_state.new.state
+    (ap more (raised_none c.args.own.now)
+    ∙ ap (λ (o : Option (Bor Properties)). more (raised_to (lent_names o) c.args.own.now)) (sym c.in-None.is)
     ∙ disambiguated_none context c.args.state.now.names c.args.own.now (ap (λ (st : State). is_some st.names) (sym c.state.view_is) ∙ (sym c.is_some.ensures ∙ c.if-is_some.false))))
-    (c.push_shown-in_default.ensures a)
+    (c.push_in_state.ensures a)

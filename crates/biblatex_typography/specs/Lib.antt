@@ -1,0 +1,2 @@
+pub mod Typography
+pub mod Changes
