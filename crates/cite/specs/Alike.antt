@@ -38,8 +38,8 @@ keys_by_cite b = map key_of (works_in b.markers)
 abbrev pub keys_in_order : {bib : List ℕ} {pieces : List Piece} → IsBibRead bib pieces → List (List ℕ)
 keys_in_order b = filter (is_among (keys_by_cite b)) (map key_of b.works.library)
 
--- Two works answer alike, in all forms, to the variables and kinds that the style names and to those that every style names, and each
--- selector holds at both or at neither.
+-- Two works answer alike, in all forms, to the variables and kinds that the style names and to those that every style names, a style of a
+-- CSL file also to what is written for the variables that it names, and each selector holds at both or at neither.
 pub record AgreeFor (style : Style) (selectors : List Tree) (v w : EntryData) : Type 0 where
   pub answers : AreAlike (style_named style) (answers_of v) (answers_of w)
   pub sections : (s : Tree) → Contains selectors s → holds_at s v ≡ holds_at s w

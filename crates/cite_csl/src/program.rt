@@ -120,8 +120,8 @@ pub fn run<'f, O: Sink, E: Sink>(
         (λ made. (Appends (O.contents out.old) (O.contents out.new) made.output)
         × (Says (λ message. message ≡ made.told) (E.contents err.old) (E.contents err.new)
         (E.failures err.old) (E.failures err.new))) }
-    // That output is the one of `cite` for the entries of the bib texts as one, with their texts as LaTeX prints them, in the style and with the
-    // locales of the files; and the one for the bib texts where their texts are so already.
+    // In a style without sort keys that output is the one of `cite` for the entries of the bib texts as one, with their texts as LaTeX prints
+    // them, in the style and with the locales of the files; and the one for the bib texts where their texts are so already.
     ensures as_cite { result ≡ 0 → Serves (read_at files.entry.now) (asked_view asked.now)
         (λ made. (Appends (O.contents out.old) (O.contents out.new) made.output)
         × (IsCiteOutput (read_at files.entry.now) (asked_view asked.now) made.output)) }

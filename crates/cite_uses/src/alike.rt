@@ -35,12 +35,13 @@ pub(crate) struct Asked<'s> {
     pub(crate) sections: &'s [Selector],
 }
 
-/// Whether a document comes out the same with the works of either file in a style and with these sections, whatever the locale and the format:
-/// each of its names means works of one key in both, which answer alike to all that the style names and are chosen by the same sections, and
-/// these stand in one order. After a yes the output is the same, or the refusal. After a no it may be the same all the same, as where the
-/// works differ in a field that the style asks for and does not print. Two works are compared once, however often and under whatever names
-/// they are cited. So the cost grows with the cites, as a sort of them and a look-up of each in both files do, and with what the cited
-/// entries answer to the style; nothing is rendered.
+/// Whether a document comes out the same with the works of either file in a style and with these sections, whatever the locale and the
+/// format: each of its names means works of one key in both, which answer alike to all that the style names (in a style of a CSL file
+/// numbers and pages also as they were written) and are chosen by the same sections, and these stand in one order. After a yes the output
+/// is the same, or the refusal. After a no it may be the same all the same, as where the works differ in a field that the style asks for
+/// and does not print. Two works are compared once, however often and under whatever names they are cited. So the cost grows with the
+/// cites, as a sort of them and a look-up of each in both files do, and with what the cited entries answer to the style; nothing is
+/// rendered.
 ///
 /// # Errors
 /// Out of memory.

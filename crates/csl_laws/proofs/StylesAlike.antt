@@ -1,5 +1,5 @@
 -- What styles mean that say the same.
-use Rattle.std.proofs.Common.{◌≡◌, true, ℕ, Bool, cond, not, ◌&&◌, List, [], ◌++◌, map, Option, Some, None, option_map, option_to_list, codes, pos, refl, ap, ◌∙◌}
+use Rattle.std.proofs.Common.{◌≡◌, true, false, ℕ, Bool, cond, not, ◌&&◌, ◌||◌, List, [], ◌++◌, map, Option, Some, None, option_map, option_to_list, codes, pos, refl, ap, ◌∙◌}
 use Rattle.std.specs.Option.{option_map_or, option_and_then, option_or, unwrap_or}
 use Rattle.laws.specs.Characters.{hyphen}
 use Rattle.laws.specs.Text.{text}
@@ -19,12 +19,13 @@ use Rattle.csl_nodes.specs.Nodes.{macro_of}
 use Rattle.csl_nodes.specs.Terms.{variable_of}
 use Rattle.csl_locales.specs.Called.{called}
 use Rattle.csl_locales.specs.Locales.{locale}
-use Rattle.csl_locales.specs.Words.{unlisted_words}
+use Rattle.csl_locales.specs.Words.{is_passed, unlisted_words}
 use Rattle.csl_styles.specs.Bibliographies.{line_spacing, entry_spacing, spacing_of, bibliography}
 use Rattle.csl_styles.specs.Citations.{is_by_cite, usual_delimiter, citation}
 use Rattle.csl_styles.specs.Files.{Dependent, Independent, Localized, localized, style_by, meaning}
 use Rattle.csl_styles.specs.Information.{category_of, categories_in, categories_of, parent_address, address_in, last_segment, parent_of}
 use Rattle.csl_styles.specs.Layouts.{layout, empty_layout, layout_in, sort_key, sort_keys}
+use Rattle.csl_styles.specs.Locators.{asks_locator, asked_in}
 use Rattle.csl_styles.specs.SecondFields.{aligned}
 use Rattle.csl_styles.specs.Styles.{demoting, splitting, default_locale, citation_in, bibliography_in, keys_in, style}
 use Rattle.csl_laws.specs.Alike.{AreAlikeInside}
@@ -109,12 +110,27 @@ keys_same x y a =
 keys_in_same : (name : List ℕ) (x y : Element) → Alike x y → keys_in name x ≡ keys_in name y
 keys_in_same name x y a = made_same name sort_keys [] (λ e f is es. keys_same e f es) (part_called name x) (part_called name y) (part_found name x y a)
 
+-- ---- whether they print locators
+
+mutual
+  locators_same : (x y : Element) → Alike x y → asks_locator x ≡ asks_locator y
+  locators_same (Tagged left n ps c) (Tagged right m bs d) (names, same, inside) =
+      let x : Element = Tagged left n ps c in
+      let y : Element = Tagged right m bs d in
+      λ j. cond (is_passed (names j)) false (says_same x y (alike_said x y (names, same, inside)) (codes "variable") (codes "locator") j || asked_same (text_counts x) c d inside j)
+
+  asked_same : (here : Bool) (c d : Content) → AreAlikeInside text_counts here c d → asked_in c ≡ asked_in d
+  asked_same here (Last t) (Last u) a = refl
+  asked_same here (Last t) (Next u f d) a = absurd a
+  asked_same here (Next t e c) (Last u) a = absurd a
+  asked_same here (Next t e c) (Next u f d) (ts, es, rest) = λ j. locators_same e f es j || asked_same here c d rest j
+
 -- ---- a citation and a bibliography
 
-citation_same : (words : List (List ℕ)) (x y : Element) → Alike x y → citation words x ≡ citation words y
-citation_same words x y a =
+citation_same : (words : List (List ℕ)) (locators : Bool) (x y : Element) → Alike x y → citation words locators x ≡ citation words locators y
+citation_same words locators x y a =
     let h : SaySame x y = alike_said x y a in
-    λ j. record (citation words x) {
+    λ j. record (citation words locators x) {
       layout = layout_in_same words x y a j;
       name_options = options_same x y h (codes "name-form") (codes "name-delimiter") j;
       add_names = true_same x y h (codes "disambiguate-add-names") j;
@@ -150,8 +166,9 @@ bibliography_same words x y a =
 
 citation_in_same : (words : List (List ℕ)) (x y : Element) → Alike x y → citation_in words x ≡ citation_in words y
 citation_in_same words x y a =
-    made_same (codes "citation") (citation words) (plain_citation empty_layout) (λ e f is es. citation_same words e f es) (part_called (codes "citation") x) (part_called (codes "citation") y)
-    (part_found (codes "citation") x y a)
+    made_same (codes "citation") (citation words (asks_locator x)) (plain_citation empty_layout) (λ e f is es. citation_same words (asks_locator x) e f es) (part_called (codes "citation") x)
+    (part_called (codes "citation") y) (part_found (codes "citation") x y a)
+    ∙ ap (λ (locators : Bool). option_map_or (citation words locators) (part_called (codes "citation") y) (plain_citation empty_layout)) (locators_same x y a)
 
 bibliography_in_same : (words : List (List ℕ)) (x y : Element) → Alike x y → bibliography_in words x ≡ bibliography_in words y
 bibliography_in_same words x y a =

@@ -25,6 +25,7 @@ use Rattle.csl_styles.specs.Files.{Csl, Dependent, Independent, Localized, local
 use Rattle.csl_styles.specs.Information.{categories_of, parent_of}
 use Rattle.csl_styles.specs.Laws.{with_info, informed}
 use Rattle.csl_styles.specs.Layouts.{empty_layout, sort_keys}
+use Rattle.csl_styles.specs.Locators.{is_of_locator, asks_locator, asked_in}
 use Rattle.csl_styles.specs.Styles.{default_locale, style}
 
 -- what is called `info` has no other name
@@ -81,6 +82,20 @@ unlisted_same : (info root : Element) → is_called (codes "info") (name_of info
 unlisted_same info (Tagged left n attributes content) is =
     ap (λ (ws : List (List ℕ)). each_once (filter is_unlisted (cond (is_passed n) [] (option_to_list (option_map text (own_word (Tagged left n attributes content))) ++ ws)))) (words_same info is content)
 
+-- whether a style prints locators
+not_asked : (e : Element) → is_called (codes "info") (name_of e) ≡ true → asks_locator e ≡ false
+not_asked (Tagged left n attributes content) is =
+    let passed : is_passed n ≡ true = ap (λ (b : Bool). not (is_csl n.space) || b) is ∙ or_true (not (is_csl n.space)) in
+    ap (λ (b : Bool). cond b false (is_of_locator (Tagged left n attributes content) || asked_in content)) passed
+
+asked_same : (info : Element) → is_called (codes "info") (name_of info) ≡ true → (c : Content) → asked_in (with_info info c) ≡ asked_in c
+asked_same info is (Last t) = refl
+asked_same info is (Next t e c) = by_test (is_called (codes "info") (name_of e)) refl (asked_in (with_info info c)) (asked_in c) (asked_same info is c)
+  where
+    by_test : (b : Bool) → is_called (codes "info") (name_of e) ≡ b → (here there : Bool) → here ≡ there → (asks_locator (cond b info e) || here) ≡ (asks_locator e || there)
+    by_test true at here there rest = ap (λ (b : Bool). b || here) (not_asked info is) ∙ (rest ∙ sym (ap (λ (b : Bool). b || there) (not_asked e at)))
+    by_test false at here there rest = ap (λ (b : Bool). asks_locator e || b) rest
+
 -- a locale
 locale_same : (info root : Element) → is_called (codes "info") (name_of info) ≡ true → localized (informed info root) ≡ localized root
 locale_same info (Tagged left n attributes content) is =
@@ -110,12 +125,13 @@ style_same info (Tagged left n attributes content) is categories None =
     let macros : called (codes "macro") (informed info x) ≡ called (codes "macro") x = called_same info (codes "macro") refl is content in
     let cites : part_called (codes "citation") (informed info x) ≡ part_called (codes "citation") x = first_same info (codes "citation") refl is content in
     let items : part_called (codes "bibliography") (informed info x) ≡ part_called (codes "bibliography") x = first_same info (codes "bibliography") refl is content in
+    let locators : asks_locator (informed info x) ≡ asks_locator x = ap (λ (b : Bool). cond (is_passed n) false (is_of_locator x || b)) (asked_same info is content) in
     let whole : style (unlisted_words (informed info x)) (informed info x) ≡ style (unlisted_words x) x =
     λ j. record (style (words j) x) {
       categories = categories j;
       locales = map (locale (words j)) (own j);
       macros = map (macro_of (words j)) (macros j);
-      citation = option_map_or (citation (words j)) (cites j) (plain_citation empty_layout);
+      citation = option_map_or (citation (words j) (locators j)) (cites j) (plain_citation empty_layout);
       bibliography = option_map (bibliography (words j)) (items j);
       citation_sort = option_map_or sort_keys (cites j) [];
       bibliography_sort = option_map_or sort_keys (items j) [];

@@ -1,6 +1,7 @@
 pub mod Literals
 pub mod Known
 pub mod FirstFaults
+pub mod Located
 pub mod Blamed
 pub mod Merging
 pub mod Segments

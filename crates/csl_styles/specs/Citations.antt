@@ -53,11 +53,12 @@ group_delimiter e = option_or (printed (codes "cite-group-delimiter") e) (usual_
 abbrev pub near_note_distance : Element → ℕ
 near_note_distance e = unwrap_or (number (codes "near-note-distance") e) 5
 
--- A citation. Of its last members all but `raises_names_first` are what CSL says of every style: the first of alike cites takes
--- the branch for alike ones too; ibid repeats a citation of one cite alone; names are compared with those of other entries; year
--- suffixes go by the numbers of entries; cites are gathered by what their names print.
-abbrev pub citation : List (List ℕ) → Element → Citation
-citation words e = record {
+-- A citation. Of its last members all but `raises_names_first` and `locators_end_runs` are what CSL says of every style: the
+-- first of alike cites takes the branch for alike ones too; ibid repeats a citation of one cite alone; names are compared with
+-- those of other entries; year suffixes go by the numbers of entries; cites are gathered by what their names print. Locators end
+-- runs of numbers where the style prints any.
+abbrev pub citation : List (List ℕ) → Bool → Element → Citation
+citation words prints_locators e = record {
   layout = layout_in words e;
   name_options = name_options (codes "name-form") (codes "name-delimiter") e;
   add_names = is_true (codes "disambiguate-add-names") e;
@@ -75,4 +76,5 @@ citation words e = record {
   suffixes_by_number = true;
   raises_names_first = raises_names_first e;
   gathers_by_text = true;
+  locators_end_runs = prints_locators;
 }

@@ -1,6 +1,7 @@
 pub mod Information
 pub mod Layouts
 pub mod Citations
+pub mod Locators
 pub mod SecondFields
 pub mod Bibliographies
 pub mod Styles

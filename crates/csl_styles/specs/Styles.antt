@@ -18,6 +18,7 @@ use Rattle.csl_locales.specs.Locales.{locale}
 use Rattle.csl_styles.specs.Information.{categories_of}
 use Rattle.csl_styles.specs.Layouts.{empty_layout, sort_keys}
 use Rattle.csl_styles.specs.Citations.{citation}
+use Rattle.csl_styles.specs.Locators.{asks_locator}
 use Rattle.csl_styles.specs.Bibliographies.{bibliography}
 
 -- options of names under which particles go after given names, where they say nothing of it
@@ -39,7 +40,7 @@ default_locale e = option_map text (attribute (codes "default-locale") e)
 
 -- its citation, and its bibliography, if it has one
 abbrev pub citation_in : List (List ℕ) → Element → Citation
-citation_in words e = option_map_or (citation words) (part_called (codes "citation") e) (plain_citation empty_layout)
+citation_in words e = option_map_or (citation words (asks_locator e)) (part_called (codes "citation") e) (plain_citation empty_layout)
 
 abbrev pub bibliography_in : List (List ℕ) → Element → Option Bibliography
 bibliography_in words e = option_map (bibliography words) (part_called (codes "bibliography") e)

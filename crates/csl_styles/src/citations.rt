@@ -93,14 +93,15 @@ fn near_note_distance(element: &Element<'_>) -> u32
     number("near-note-distance", element).unwrap_or(5)
 }
 
-/// A citation.
+/// A citation. Where the style prints locators, these end runs of numbers.
 pub(crate) fn citation(
     alloc: Global,
     words: &Words,
+    prints_locators: bool,
     element: &Element<'_>,
 ) -> Result<Citation, AllocError>
     ensures { IfOk result (λ c. citation_layout_view c
-        ≡ specs.citation (words_view words.now) (element_view element.now)) }
+        ≡ specs.citation (words_view words.now) prints_locators (element_view element.now)) }
 {
     let cite_group_delimiter = group_delimiter(alloc, element)?;
     let after_collapse_delimiter = printed(alloc, "after-collapse-delimiter", element)?;
@@ -125,5 +126,6 @@ pub(crate) fn citation(
         suffixes_by_number: true,
         raises_names_first: raises_names_first(element),
         gathers_by_text: true,
+        locators_end_runs: prints_locators,
     })
 }

@@ -10,6 +10,7 @@ mod file;
 mod information;
 mod layouts;
 mod locales;
+mod locators;
 mod macros;
 mod meanings;
 mod reading;

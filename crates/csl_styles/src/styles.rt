@@ -13,6 +13,7 @@ use crate::citations::citation;
 use crate::information::categories_of;
 use crate::layouts::empty_layout;
 use crate::locales::locales_of;
+use crate::locators::asks_locator;
 use crate::macros::macros_of;
 use crate::sorting::sort_keys;
 use csl_nodes::{Words, name_options};
@@ -73,7 +74,7 @@ fn citation_in(alloc: Global, words: &Words, element: &Element<'_>) -> Result<Ci
         ≡ specs.citation_in (words_view words.now) (element_view element.now)) }
 {
     match part_called("citation", element) {
-        Some(part) => citation(alloc, words, part),
+        Some(part) => citation(alloc, words, asks_locator(element), part),
         None => Ok(Citation::new(empty_layout(alloc))),
     }
 }

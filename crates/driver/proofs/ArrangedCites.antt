@@ -37,10 +37,10 @@ module _ {X : Type 0} (c : Citation) (P : Gathered X → Type 0) where
 
   numbers_all : (xs : List (Arranged X)) → AllByRecursion IsOne xs → AllByRecursion IsOne (numbers_collapsed c xs)
   numbers_all xs h =
-      let runs = with_previous_test is_long (runs_of is_next_number xs) in
+      let runs = with_previous_test is_long (runs_of (is_next_number c.locators_end_runs) xs) in
       flat_all IsOne (λ r. collapsed_run (after_run c r)) runs
       (weaker_all (λ (r : Bool × List (Arranged X)). AllByRecursion IsOne r.1) (λ r. AllByRecursion IsOne (collapsed_run (after_run c r))) (λ r g. run_all (after_run c r) (after_all r g)) runs
-      (tested_each IsOne is_long (runs_of is_next_number xs) (runs_each IsOne is_next_number xs h)))
+      (tested_each IsOne is_long (runs_of (is_next_number c.locators_end_runs) xs) (runs_each IsOne (is_next_number c.locators_end_runs) xs h)))
 
   suffixes_all : (xs : List (Arranged X)) → AllByRecursion IsOne xs → AllByRecursion IsOne (suffixes_collapsed xs)
   suffixes_all xs h =

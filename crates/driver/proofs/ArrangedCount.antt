@@ -85,7 +85,7 @@ module _ {X : Type 0} (c : Citation) (w : Gathered X → ℕ) where
 
   count_numbers : (xs : List (Arranged X)) → sum_by weight (numbers_collapsed c xs) ≡ sum_by weight xs
   count_numbers xs =
-      count_tested weight weight is_long (λ r. collapsed_run (after_run c r)) (λ r. count_run (after_run c r) ∙ count_after r) (runs_of is_next_number xs) ∙ ap (sum_by weight) (runs_all is_next_number xs)
+      count_tested weight weight is_long (λ r. collapsed_run (after_run c r)) (λ r. count_run (after_run c r) ∙ count_after r) (runs_of (is_next_number c.locators_end_runs) xs) ∙ ap (sum_by weight) (runs_all (is_next_number c.locators_end_runs) xs)
 
   count_suffixes : (xs : List (Arranged X)) → sum_by weight (suffixes_collapsed xs) ≡ sum_by weight xs
   count_suffixes xs = count_each weight weight collapsed_run (λ ys. ys) count_run (runs_of continues xs) ∙ ap (sum_by weight) (runs_all continues xs)

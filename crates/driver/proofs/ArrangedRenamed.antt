@@ -111,10 +111,10 @@ module _ {X Y : Type 0} (f : X → Y) (c : Citation) where
 
   numbers_renamed : (xs : List (Arranged X)) → numbers_collapsed c (map (arranged_as f) xs) ≡ map (arranged_as f) (numbers_collapsed c xs)
   numbers_renamed xs =
-      ap (λ runs. flat_map (λ r. collapsed_run (after_run c r)) (with_previous_test is_long runs)) (runs_renamed (arranged_as f) is_next_number xs)
-      ∙ ap (flat_map (λ r. collapsed_run (after_run c r))) (tests_renamed (arranged_as f) is_long is_long (long_renamed (arranged_as f)) (runs_of is_next_number xs))
+      ap (λ runs. flat_map (λ r. collapsed_run (after_run c r)) (with_previous_test is_long runs)) (runs_renamed (arranged_as f) (is_next_number c.locators_end_runs) xs)
+      ∙ ap (flat_map (λ r. collapsed_run (after_run c r))) (tests_renamed (arranged_as f) is_long is_long (long_renamed (arranged_as f)) (runs_of (is_next_number c.locators_end_runs) xs))
       ∙ flat_both (tested (arranged_as f)) (arranged_as f) (λ r. collapsed_run (after_run c r)) (λ r. collapsed_run (after_run c r)) (λ r. ap collapsed_run (after_renamed r) ∙ run_renamed (after_run c r))
-      (with_previous_test is_long (runs_of is_next_number xs))
+      (with_previous_test is_long (runs_of (is_next_number c.locators_end_runs) xs))
 
   suffixes_renamed : (xs : List (Arranged X)) → suffixes_collapsed (map (arranged_as f) xs) ≡ map (arranged_as f) (suffixes_collapsed xs)
   suffixes_renamed xs = ap (flat_map collapsed_run) (runs_renamed (arranged_as f) continues xs) ∙ flat_both (map (arranged_as f)) (arranged_as f) collapsed_run collapsed_run run_renamed (runs_of continues xs)

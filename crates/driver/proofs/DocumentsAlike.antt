@@ -17,6 +17,7 @@ use Rattle.rendering_tree.specs.Trees.{element_with, names_element}
 use Rattle.rendering.specs.Alike.{named_in_bibliography, style_named}
 use Rattle.rendering.specs.Purposes as purposes
 use Rattle.rendering_context.specs.Contexts.{StyleContext}
+use Rattle.rendering_people.specs.Properties.{raised_to}
 use Rattle.rendering.specs.Purposes.{bibliography, citation}
 use Rattle.rendering.specs.Words.{joining_quotes}
 use Rattle.rendering.proofs.CitesAlike.{cites_alike, items_alike, layouts_alike}
@@ -35,14 +36,15 @@ use Rattle.driver_rounds.specs.Documents.{Document, order_in}
 use Rattle.driver.specs.Finish.{citation_in, finish, is_final_of, item_of_cite, item_of_entry, item_properties, rendered_from, shown}
 use Rattle.driver.specs.Renaming.{arranged_as, gathered_as}
 use Rattle.driver.specs.Stages.{Final, arranged_for, cite_of, final, finals_in, first_print_of, gathered_by, has_purpose, located, state_for, printed_at_last}
-use Rattle.driver_rounds.specs.FirstPrints.{FirstPrint, candidate, disambiguated_in, first_print, first_prints_in, first_states_in, flattened, has_suffix_date, named_after, numbered_after, numbered_in, printed_by, printed_undisambiguated, purpose_at_first, with_first_names}
+use Rattle.driver_rounds.specs.FirstPrints.{FirstPrint, candidate, disambiguated_in, first_naming, first_print, first_prints_in, first_states_in, flattened, has_suffix_date, kept_where, named_after, numbered_after, numbered_in, printed_by, printed_undisambiguated, printed_with, purpose_at_first, repeats_by, ruled_states, with_first_names}
 use Rattle.driver_names.specs.FirstNames.{first_names}
 use Rattle.driver_names.specs.Prints.{printed_as}
 use Rattle.driver_disambiguation.specs.States.{States, states_after, undisambiguated_states}
 use Rattle.driver.proofs.ArrangedRenamed.{arranged_renamed}
-use Rattle.driver.proofs.DocumentsRenamed.{adds_same, cited_same, numbered_same, numbered_with, order_same, purpose_same, rule_same}
+use Rattle.driver.proofs.DocumentsRenamed.{adds_same, cited_same, numbered_same, numbered_with, order_same, purpose_same, naming_same}
 use Rattle.driver.proofs.FinalPrintsOf.{finals_all, prints_all}
-use Rattle.driver.proofs.Maps.{flat_maps, map_map, maps_of_maps}
+use Rattle.driver_rounds.proofs.ListsGrown.{flat_maps}
+use Rattle.driver.proofs.Maps.{map_map, maps_of_maps}
 use Rattle.driver.proofs.Members.{both_all, flat_all, map_all, previous_all, weaker_all}
 use Rattle.driver.specs.Alike.{AreAlikeIn, HasAlike, document_with, request_with, requests_named}
 use Rattle.driver.proofs.MapsTurned.{after, both, map_same, maps_same, maps_turned, previous_map}
@@ -96,9 +98,10 @@ module _ {P : Type 0} (answers : ℕ → Answers) where
         number = b.numbered.number;
         has_date = dates k;
         style = b.numbered.cite.context.style.citation;
+        repeats = repeats_by b.numbered.cite.context.style.citation b.numbered.ibid;
         printed = printed k;
         met_disambiguate = b.rendered.met_disambiguate;
-        names = b.rendered.names;
+        names = option_map (raised_to b.numbered.first_names) b.rendered.names;
       }
 
   gathered_alike : (t : Disambiguation) (b : FirstPrint P) → OfAlike b → gathered_by t (first_with b) ≡ gathered_as first_with (gathered_by t b)
@@ -229,6 +232,36 @@ module _ {P : Type 0} (answers : ℕ → Answers) where
           let tree : (printed_by (numbered_with answers n) undisambiguated).tree ≡ (printed_by n undisambiguated).tree = ap (λ (b : FirstPrint P). b.rendered.tree) e in
           λ k. printed_as (known k) undisambiguated (tree k)
 
+      named_one : (ss : Option States) (n : Numbered P) → with_first_names ss (numbered_with answers n) ≡ numbered_with answers (with_first_names ss n)
+      named_one None n = refl
+      named_one (Some ss) n = refl
+
+      -- a cite prints the same undisambiguated with first names by states
+      abbrev IsNamedAlike : Option States → Numbered P → Type 0
+      IsNamedAlike ss n = printed_undisambiguated (with_first_names ss (numbered_with answers n)) ≡ printed_undisambiguated (with_first_names ss n)
+
+      -- so do all cites
+      prints_named : (ss : Option States) → printed_with ss (flattened (numbered_in same (document_with answers d))) ≡ printed_with ss (flattened (numbered_in same d))
+      prints_named ss =
+          let nss = numbered_in same d in
+          ap (λ mss. printed_with ss (flattened mss)) (numbered_same answers same d)
+          ∙ ap (printed_with ss) (flat_maps (numbered_with answers) nss)
+          ∙ ap (map printed_undisambiguated) (map_map (with_first_names ss) (numbered_with answers) (flattened nss))
+          ∙ map_map printed_undisambiguated (λ n. with_first_names ss (numbered_with answers n)) (flattened nss)
+          ∙ map_same (λ n. printed_undisambiguated (with_first_names ss (numbered_with answers n))) (λ n. printed_undisambiguated (with_first_names ss n)) (flattened nss) (flat_all (IsNamedAlike ss) (λ ns. ns) nss all_same)
+          ∙ sym (map_map printed_undisambiguated (with_first_names ss) (flattened nss))
+        where
+          at : (p : Option (Cite P) × Cite P) → IsAlike p.1 → IsNamedAlike ss (numbered_after same d p)
+          at (last, c) l =
+              let n = numbered_after same d (last, c) in
+              ap printed_undisambiguated (named_one ss n) ∙ undisambiguated_alike (with_first_names ss n) (first_alike_one (with_first_names ss n) l) l
+
+          all_same : AllByRecursion (AllByRecursion (IsNamedAlike ss)) (numbered_in same d)
+          all_same =
+              map_all (AllByRecursion (IsNamedAlike ss)) (map (numbered_after same d)) (with_previous None (cites_of d.requests))
+              (weaker_all (AllByRecursion (λ (p : Option (Cite P) × Cite P). IsAlike p.1)) (λ ps. AllByRecursion (IsNamedAlike ss) (map (numbered_after same d) ps))
+              (λ ps l. map_all (IsNamedAlike ss) (numbered_after same d) ps (weaker_all (λ (p : Option (Cite P) × Cite P). IsAlike p.1) (λ p. IsNamedAlike ss (numbered_after same d p)) at ps l)) (with_previous None (cites_of d.requests)) (previous_all IsAlike None (cites_of d.requests) h))
+
       -- so are the states by first names
       states_first_alike : first_states_in same (document_with answers d) ≡ first_states_in same d
       states_first_alike =
@@ -239,7 +272,10 @@ module _ {P : Type 0} (answers : ℕ → Answers) where
           ∙ map_map printed_undisambiguated (numbered_with answers) (flattened nss)
           ∙ map_same (λ n. printed_undisambiguated (numbered_with answers n)) printed_undisambiguated (flattened nss)
           (flat_all (λ (n : Numbered P). printed_undisambiguated (numbered_with answers n) ≡ printed_undisambiguated n) (λ ns. ns) nss undisambiguated_known) in
-          λ k. option_map (λ r. states_after (first_names r (numbered k)) (undisambiguated_states (length (cited_same answers d.requests k)))) (rule_same answers d.requests k)
+          let named : ruled_states (first_naming (document_with answers d).requests).0 (length (cited (document_with answers d).requests)) (flattened (numbered_in same (document_with answers d))) ≡ ruled_states (first_naming d.requests).0 (length (cited d.requests)) (flattened nss) =
+          λ k. option_map (λ r. states_after (first_names r (numbered k)) (undisambiguated_states (length (cited_same answers d.requests k)))) (naming_same answers d.requests k).0 in
+          let prints = ap (λ ss. printed_with ss (flattened (numbered_in same (document_with answers d)))) named ∙ prints_named (ruled_states (first_naming d.requests).0 (length (cited d.requests)) (flattened nss)) in
+          λ k. kept_where (naming_same answers d.requests k).1 (length (cited_same answers d.requests k)) (named k) (prints k)
         where
           at : (p : Option (Cite P) × Cite P) → IsAlike p.1 → printed_undisambiguated (numbered_with answers (numbered_after same d p)) ≡ printed_undisambiguated (numbered_after same d p)
           at (last, c) l = undisambiguated_alike (numbered_after same d (last, c)) (first_alike_one (numbered_after same d (last, c)) l) l
@@ -250,10 +286,6 @@ module _ {P : Type 0} (answers : ℕ → Answers) where
               (weaker_all (AllByRecursion (λ (p : Option (Cite P) × Cite P). IsAlike p.1)) (λ ps. AllByRecursion (λ (n : Numbered P). printed_undisambiguated (numbered_with answers n) ≡ printed_undisambiguated n) (map (numbered_after same d) ps))
               (λ ps l. map_all (λ (n : Numbered P). printed_undisambiguated (numbered_with answers n) ≡ printed_undisambiguated n) (numbered_after same d) ps
               (weaker_all (λ (p : Option (Cite P) × Cite P). IsAlike p.1) (λ p. printed_undisambiguated (numbered_with answers (numbered_after same d p)) ≡ printed_undisambiguated (numbered_after same d p)) at ps l)) (with_previous None (cites_of d.requests)) (previous_all IsAlike None (cites_of d.requests) h))
-
-      named_one : (ss : Option States) (n : Numbered P) → with_first_names ss (numbered_with answers n) ≡ numbered_with answers (with_first_names ss n)
-      named_one None n = refl
-      named_one (Some ss) n = refl
 
       -- cites have the same first names
       named_same : map (map (named_after same (document_with answers d))) (with_previous None (cites_of (document_with answers d).requests)) ≡ map (map (numbered_with answers)) (map (map (named_after same d)) (with_previous None (cites_of d.requests)))

@@ -11,7 +11,7 @@ use Rattle.driver_requests.specs.Order.{cited, number_in, ordered}
 use Rattle.driver_requests.specs.Positions.{counts_at_first, ibid_of, place_of, with_previous}
 use Rattle.driver_requests.specs.Requests.{Item, Request, cites_entry}
 use Rattle.driver_rounds.specs.Documents.{Document, order_in}
-use Rattle.driver_rounds.specs.FirstPrints.{adds_names, first_rule, numbered_after}
+use Rattle.driver_rounds.specs.FirstPrints.{adds_names, first_naming, numbered_after}
 use Rattle.driver.specs.Stages.{has_purpose}
 use Rattle.driver.proofs.Maps.{any_map, any_same, enumerate_map, map_map, placed}
 use Rattle.driver.specs.Alike.{document_with, item_with, request_with}
@@ -89,9 +89,9 @@ module _ {P : Type 0} (answers : ℕ → Answers) where
   adds_same [] = refl
   adds_same (r ∷ rs) = refl
 
-  pub rule_same : (rs : List (Request P)) → first_rule (map (request_with answers) rs) ≡ first_rule rs
-  rule_same [] = refl
-  rule_same (r ∷ rs) = refl
+  pub naming_same : (rs : List (Request P)) → first_naming (map (request_with answers) rs) ≡ first_naming rs
+  naming_same [] = refl
+  naming_same (r ∷ rs) = refl
 
   -- the same items have a purpose
   pub purpose_same : (r : Request P) → has_purpose (request_with answers r) ≡ has_purpose r

@@ -25,7 +25,7 @@ use Rattle.driver.specs.Finish.{finish, keys_in, rendered_from}
 use Rattle.driver_rounds.specs.OrderAndNumbers.{KnownCites, known_in, known_of, known_view}
 use Rattle.driver.specs.Listing.{keys_first, rendered_of}
 use Rattle.driver_rounds.specs.Rounding.{AreWithin, round_states_view, unless_overflow}
-use Rattle.driver_rounds.specs.FirstPrints.{adds_names, candidate, disambiguated_in, first_print, first_prints_in, first_rule, first_states, flattened, named_in, numbered_in}
+use Rattle.driver_rounds.specs.FirstPrints.{adds_names, candidate, disambiguated_in, first_print, first_prints_in, first_naming, first_states, flattened, named_in, numbered_in}
 use Rattle.driver_rounds.specs.Naming.{seen, seen_under, states_by}
 use Rattle.driver_rounds.proofs.NamingSteps.{lent_states, runs_named}
 use Rattle.driver.specs.Stages.{finals_in}
@@ -59,7 +59,7 @@ module _ {T P : Type 0} (eq : T → T → Bool) (answers : T → Answers) (same 
 
   -- and their first names
   pub named_known : (ns vs : List (Vec NumberedCite Global)) (lent : Option (Bor (List DisambiguateState))) (ss : Option States) → ns ≡ k.runs.items → states_by lent ≡ ss
-      → ss ≡ first_states (first_rule (map (request_view {P = P} (λ e. 0) answers) rs)) k.count (flattened (all_numbered_cites_view answers rs ns))
+      → ss ≡ first_states (first_naming (map (request_view {P = P} (λ e. 0) answers) rs)) k.count (flattened (all_numbered_cites_view answers rs ns))
       → map (λ (v : Vec NumberedCite Global). map seen v.items) vs ≡ map (λ (n : Vec NumberedCite Global). map (seen_under (states_by lent)) n.items) ns
       → named_in same document ≡ all_numbered_cites_view answers rs vs
   named_known ns vs lent ss e lends states made =
@@ -69,12 +69,12 @@ module _ {T P : Type 0} (eq : T → T → Bool) (answers : T → Answers) (same 
   -- cites that are named by the states that the code has made
   pub named_given : (ns ms vs ws : List (Vec NumberedCite Global)) (lent : Option (Bor (List DisambiguateState))) (made : Option (Vec DisambiguateState Global)) → ns ≡ k.runs.items → ms ≡ k.runs.items → ws ≡ vs
       → option_map (λ (b : Bor (List DisambiguateState)). b.now) lent ≡ option_map (λ (v : Vec DisambiguateState Global). v.items) made
-      → option_map (λ (v : Vec DisambiguateState Global). map state_view v.items) made ≡ first_states (first_rule (map (request_view {P = P} (λ e. 0) answers) rs)) k.count (flattened (all_numbered_cites_view answers rs ns))
+      → option_map (λ (v : Vec DisambiguateState Global). map state_view v.items) made ≡ first_states (first_naming (map (request_view {P = P} (λ e. 0) answers) rs)) k.count (flattened (all_numbered_cites_view answers rs ns))
       → map (λ (v : Vec NumberedCite Global). map seen v.items) vs ≡ map (λ (m : Vec NumberedCite Global). map (seen_under (states_by lent)) m.items) ms
       → named_in same document ≡ all_numbered_cites_view answers rs ws
   named_given ns ms vs ws lent made is_ns is_ms is_ws lends states named =
       named_known ms vs lent (option_map (λ (v : Vec DisambiguateState Global). map state_view v.items) made) is_ms (lent_states lent made lends)
-      (states ∙ ap (λ (us : List (Vec NumberedCite Global)). first_states (first_rule (map (request_view {P = P} (λ e. 0) answers) rs)) k.count (flattened (all_numbered_cites_view answers rs us))) (is_ns ∙ sym is_ms)) named
+      (states ∙ ap (λ (us : List (Vec NumberedCite Global)). first_states (first_naming (map (request_view {P = P} (λ e. 0) answers) rs)) k.count (flattened (all_numbered_cites_view answers rs us))) (is_ns ∙ sym is_ms)) named
       ∙ ap (λ (us : List (Vec NumberedCite Global)). all_numbered_cites_view answers rs us) (sym is_ws)
 
   module _ (vs : List (Vec NumberedCite Global)) (named : named_in same document ≡ all_numbered_cites_view answers rs vs) where

@@ -27,11 +27,11 @@ use Rattle.driver.specs.Finish.{effort_bound, finish, is_final_of, item_of_entry
 use Rattle.driver_rounds.specs.OrderAndNumbers.{KnownCites, known_in, known_of}
 use Rattle.driver.specs.Listing.{bibliography_from, item_first, item_listed, rendered_of}
 use Rattle.driver.specs.Stages.{Final, finals_in}
-use Rattle.driver_rounds.specs.FirstPrints.{adds_names, candidate, disambiguated_in, first_print, first_prints_in, first_rule, first_states, first_states_in, flattened, named_after, named_in, numbered_after, numbered_in, with_first_names}
+use Rattle.driver_rounds.specs.FirstPrints.{FirstNaming, adds_names, candidate, disambiguated_in, first_print, first_prints_in, first_naming, first_states, first_states_in, flattened, named_after, named_in, numbered_after, numbered_in, with_first_names}
 use Rattle.driver_rounds.specs.Naming.{first_effort}
-use Rattle.rendering_taxonomy.specs.declared.style.DisambiguationRule.{DisambiguationRule}
 use Rattle.driver_rounds.proofs.KnownIndices.{passed}
-use Rattle.driver.proofs.Maps.{flat_maps, map_map, maps_of_maps}
+use Rattle.driver_rounds.proofs.ListsGrown.{flat_maps}
+use Rattle.driver.proofs.Maps.{map_map, maps_of_maps}
 
 -- what is known of cites, where no number overflows
 pub known_parts : {P : Type 0} (same : P → P → Bool) (d : Document P) (k : KnownCites P) → known_in same d ≡ Ok k → (numbers_overflow d.offset (cited d.requests) ≡ false) × (known_of same d ≡ k)
@@ -159,23 +159,23 @@ runs_many {P} same d nss are = ap (λ (mss : List (List (Numbered P))). length (
 pub named_many : {P : Type 0} (same : P → P → Bool) (d : Document P) (nss : List (List (Numbered P))) → named_in same d ≡ nss → length (flattened nss) ≡ items_count d
 named_many {P} same d nss are = ap (λ (mss : List (List (Numbered P))). length (flattened mss)) (sym are) ∙ named_long same d
 
-pub rule_alike : {T P : Type 0} (answers : T → Answers) (p q : T → ℕ) (rs : List (CitationRequest T P)) → first_rule (map (request_view {P = P} p answers) rs) ≡ first_rule (map (request_view {P = P} q answers) rs)
-rule_alike answers p q [] = refl
-rule_alike answers p q (r ∷ rs) = refl
+pub naming_alike : {T P : Type 0} (answers : T → Answers) (p q : T → ℕ) (rs : List (CitationRequest T P)) → first_naming (map (request_view {P = P} p answers) rs) ≡ first_naming (map (request_view {P = P} q answers) rs)
+naming_alike answers p q [] = refl
+naming_alike answers p q (r ∷ rs) = refl
 
 -- the cites of a document with their first names, from those with their numbers
 pub named_are : {T P : Type 0} (same : P → P → Bool) (answers : T → Answers) (index : T → ℕ) (rs : List (CitationRequest T P)) (d : Document P) (count : ℕ) (nss mss : List (List (Numbered P))) (ss : Option States)
-    → d.requests ≡ map (request_view index answers) rs → length (cited d.requests) ≡ count → numbered_in same d ≡ nss → ss ≡ first_states (first_rule (map (request_view {P = P} (λ e. 0) answers) rs)) count (flattened nss)
+    → d.requests ≡ map (request_view index answers) rs → length (cited d.requests) ≡ count → numbered_in same d ≡ nss → ss ≡ first_states (first_naming (map (request_view {P = P} (λ e. 0) answers) rs)) count (flattened nss)
     → mss ≡ map (map (with_first_names ss)) nss → named_in same d ≡ mss
 named_are {T} {P} same answers index rs d count nss mss ss requests many are states made =
-    let rule : first_rule (map (request_view {P = P} (λ e. 0) answers) rs) ≡ first_rule d.requests = rule_alike answers (λ e. 0) index rs ∙ ap first_rule (sym requests) in
+    let rule : first_naming (map (request_view {P = P} (λ e. 0) answers) rs) ≡ first_naming d.requests = naming_alike answers (λ e. 0) index rs ∙ ap first_naming (sym requests) in
     let same_states : ss ≡ first_states_in same d = states ∙ (λ k. first_states (rule k) (sym many k) (flattened (sym are k))) in
     sym (made ∙ (λ k. map (map (with_first_names (same_states k))) (sym are k)) ∙ sym (maps_of_maps (with_first_names (first_states_in same d)) (numbered_after same d) (with_previous None (cites_of d.requests))))
 
 -- how much is done, part by part
-pub effort_is : {P : Type 0} (d : Document P) (order : List ℕ) (rule : Option DisambiguationRule) (start named first after last k l m n : ℕ) → start ≡ 0 → k ≡ items_count d → l ≡ items_count d → m ≡ items_count d → n ≡ items_count d → length order ≡ length (cited d.requests)
-    → rule ≡ first_rule d.requests → named ≤ start + first_effort rule k → first ≤ named + l → after ≤ first + 3 * m → last ≤ after + n + option_map_or (λ s. length order) d.bibliography_context.style.bibliography 0 → last ≤ effort_bound d
+pub effort_is : {P : Type 0} (d : Document P) (order : List ℕ) (rule : FirstNaming) (start named first after last k l m n : ℕ) → start ≡ 0 → k ≡ items_count d → l ≡ items_count d → m ≡ items_count d → n ≡ items_count d → length order ≡ length (cited d.requests)
+    → rule ≡ first_naming d.requests → named ≤ start + first_effort rule k → first ≤ named + l → after ≤ first + 3 * m → last ≤ after + n + option_map_or (λ s. length order) d.bibliography_context.style.bibliography 0 → last ≤ effort_bound d
 effort_is d order rule start named first after last k l m n none is_k is_l is_m is_n many is_rule z a b c =
-    let asked : first_effort rule k ≡ first_effort (first_rule d.requests) (items_count d) = λ j. first_effort (is_rule j) (is_k j) in
+    let asked : first_effort rule k ≡ first_effort (first_naming d.requests) (items_count d) = λ j. first_effort (is_rule j) (is_k j) in
     let listed = listing_at_most (length order) (length (cited d.requests)) d.bibliography_context.style.bibliography many in
     omega (arith, none, is_l, is_m, is_n, listed, asked, z, a, b, c)

@@ -1,8 +1,6 @@
 -- Lists that are mapped.
-use Rattle.std.proofs.Common.{◌≡◌, ℕ, ◌+◌, Bool, ◌||◌, List, [], ◌∷◌, ◌++◌, map, refl, sym, ap, ap₂, ◌∙◌}
+use Rattle.std.proofs.Common.{◌≡◌, ℕ, ◌+◌, Bool, ◌||◌, List, [], ◌∷◌, map, refl, sym, ap, ap₂}
 use Rattle.std.specs.List.{enumerate_from, list_any}
-use Rattle.std.proofs.lemmas.List.{map-append}
-use Rattle.driver_rounds.specs.FirstPrints.{flattened}
 
 pub map_map : {A B C : Type 0} (f : B → C) (g : A → B) (xs : List A) → map f (map g xs) ≡ map (λ (a : A). f (g a)) xs
 map_map f g [] = refl
@@ -11,10 +9,6 @@ map_map f g (x ∷ xs) = ap (λ zs. f (g x) ∷ zs) (map_map f g xs)
 pub maps_of_maps : {A B C : Type 0} (f : B → C) (g : A → B) (xss : List (List A)) → map (map (λ (a : A). f (g a))) xss ≡ map (map f) (map (map g) xss)
 maps_of_maps f g [] = refl
 maps_of_maps f g (xs ∷ xss) = ap₂ (λ zs zss. zs ∷ zss) (sym (map_map f g xs)) (maps_of_maps f g xss)
-
-pub flat_maps : {A B : Type 0} (f : A → B) (xss : List (List A)) → flattened (map (map f) xss) ≡ map f (flattened xss)
-flat_maps f [] = refl
-flat_maps f (xs ∷ xss) = ap (λ ys. map f xs ++ ys) (flat_maps f xss) ∙ sym (map-append f xs (flattened xss))
 
 pub any_map : {A B : Type 0} (f : A → B) (p : B → Bool) (xs : List A) → list_any p (map f xs) ≡ list_any (λ x. p (f x)) xs
 any_map f p [] = refl

@@ -15,7 +15,7 @@ use Rattle.driver_disambiguation.specs.Rounds.{Disambiguation}
 use Rattle.driver_bibliography.specs.Items.{Fields, items_of}
 use Rattle.driver_citations.specs.Citations.{Shown, citation_of}
 use Rattle.driver_rounds.specs.Documents.{Document, order_in, items_count}
-use Rattle.driver_rounds.specs.FirstPrints.{FirstPrint, flattened, first_prints_in, disambiguated_in, first_rule}
+use Rattle.driver_rounds.specs.FirstPrints.{FirstPrint, flattened, first_prints_in, disambiguated_in, first_naming}
 use Rattle.driver_rounds.specs.Naming.{first_effort}
 use Rattle.driver.specs.Stages.{Final, first_print_of, finals_in, has_purpose, cite_of, printed_at_last}
 use Rattle.rendering_taxonomy.specs.declared.style.SecondFieldAlign.{SecondFieldAlign}
@@ -119,7 +119,7 @@ key_at d index = option_map (λ i. i.entry.answers.key) (find (cites_entry index
 abbrev pub keys_in : {P : Type 0} → Document P → List (List ℕ)
 keys_in d = filter_map (key_at d) (order_in d)
 
--- How many calls of styles `finish` takes at most: five for each item, or six where given names are printed before cites are compared, and
--- one for each cited entry where there is a bibliography.
+-- How many calls of styles `finish` takes at most: five for each item, one more where given names are printed before cites are compared,
+-- one more where what names give to alike cites stays, and one for each cited entry where there is a bibliography.
 abbrev pub effort_bound : {P : Type 0} → Document P → ℕ
-effort_bound d = first_effort (first_rule d.requests) (items_count d) + 5 * items_count d + option_map_or (λ b. length (cited d.requests)) d.bibliography_context.style.bibliography 0
+effort_bound d = first_effort (first_naming d.requests) (items_count d) + 5 * items_count d + option_map_or (λ b. length (cited d.requests)) d.bibliography_context.style.bibliography 0

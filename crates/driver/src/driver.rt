@@ -24,7 +24,7 @@ use driver_disambiguation::suffixes;
 use driver_requests::{BibliographyRequest, CitationRequest, DriverError};
 use driver_rounds::{
     DocumentCites, FirstPrints, RoundStates, disambiguated, first_prints, first_states, known_of,
-    named_runs,
+    lent, named_runs,
 };
 use rendering::Effort;
 use rendering_context::DisambiguateState;
@@ -204,16 +204,6 @@ fn finish_requests<'r, T: EntryLike + Hash, P: PartialEq>(
         entry_states,
         &mut effort,
     )
-}
-
-/// The states of entries, where there are some.
-fn lent(states: &Option<Vec<DisambiguateState>>) -> Option<&[DisambiguateState]>
-    ensures { option_map (λ s. s.now) result ≡ option_map (λ v. v.items) states.now }
-{
-    match states {
-        Some(states) => Some(states.as_slice()),
-        None => None,
-    }
 }
 
 /// Citations and bibliography of requests by the final states. The bibliography is printed once what cites have printed is freed.

@@ -27,6 +27,7 @@ collapsing mode inside c = record c {
   after_collapse_delimiter = Some (codes "! ");
   year_suffix_delimiter = Some (codes ",");
   gathers_by_text = false;
+  locators_end_runs = false;
 }
 
 -- a cite by a word, with names
@@ -99,6 +100,32 @@ over_a_hidden_one :
     ≡ all_after 1 semicolon ∷ hidden_after 2 semicolon ∷ all_after 3 semicolon ∷ []
 unfolding earlier collapsing numbered all_after hidden_after semicolon
 over_a_hidden_one c = refl
+
+-- a cite with a locator stands in a run, but where locators end runs
+with_its_locator : ℕ → Gathered ℕ
+with_its_locator n = record (numbered n) { has_locator = true }
+
+ending_runs : Citation → Citation
+ending_runs c = record (collapsing (Some collapses.CitationNumber) None c) { locators_end_runs = true }
+
+over_a_locator :
+    (c : Citation)
+    → map earlier (arranged (collapsing (Some collapses.CitationNumber) None c) false (numbered 1 ∷ with_its_locator 2 ∷ numbered 3 ∷ [])) ≡ all_after 1 semicolon ∷ hidden_after 2 semicolon ∷ all_after 3 (Some dash) ∷ []
+unfolding earlier collapsing numbered with_its_locator all_after hidden_after semicolon
+over_a_locator c = refl
+
+at_a_locator :
+    (c : Citation) → map earlier (arranged (ending_runs c) false (numbered 1 ∷ with_its_locator 2 ∷ numbered 3 ∷ [])) ≡ all_after 1 semicolon ∷ all_after 2 semicolon ∷ all_after 3 semicolon ∷ []
+unfolding earlier collapsing ending_runs numbered with_its_locator all_after semicolon
+at_a_locator c = refl
+
+-- the delimiter after what was collapsed comes before it
+after_what_was_collapsed :
+    (c : Citation)
+    → map earlier (arranged (ending_runs c) false (numbered 1 ∷ numbered 2 ∷ numbered 3 ∷ with_its_locator 4 ∷ numbered 5 ∷ []))
+    ≡ all_after 1 semicolon ∷ hidden_after 2 semicolon ∷ all_after 3 (Some dash) ∷ all_after 4 (Some (codes "! ")) ∷ all_after 5 semicolon ∷ []
+unfolding earlier collapsing ending_runs numbered with_its_locator all_after hidden_after semicolon
+after_what_was_collapsed c = refl
 
 with_a_purpose :
     (c : Citation)

@@ -37,9 +37,14 @@ is_next m n = false
 abbrev pub shown_number : {X : Type 0} → Arranged X → Option ℕ
 shown_number a = if a.is_shown then a.cite.number else None
 
--- whether a shown number is one more than the one before it
-abbrev pub is_next_number : {X : Type 0} → Arranged X → Arranged X → Bool
-is_next_number a b = is_next (shown_number a) (shown_number b)
+-- the number by which a cite stands in a run: it is shown, and, where locators end runs, has no locator
+abbrev pub number_in_run : {X : Type 0} → Bool → Arranged X → Option ℕ
+number_in_run ends a =
+    if a.is_shown && not (ends && a.cite.has_locator) then a.cite.number else None
+
+-- whether a number in a run is one more than the one before it
+abbrev pub is_next_number : {X : Type 0} → Bool → Arranged X → Arranged X → Bool
+is_next_number ends a b = is_next (number_in_run ends a) (number_in_run ends b)
 
 -- whether a number is shown
 abbrev pub is_numbered : {X : Type 0} → Arranged X → Bool
@@ -50,9 +55,15 @@ abbrev pub after_run : {X : Type 0} → Citation → Bool × List (Arranged X) �
 after_run c (is_after, []) = []
 after_run c (is_after, a ∷ others) = if is_after && is_numbered a then record a { delimiter = delimiter_after_collapsed c } ∷ others else a ∷ others
 
--- Cites whose numbers are collapsed: of three or more numbers that rise by one, those between the first and the last are hidden.
+-- Cites in runs by a test: of three or more in a run those between the first and the last are hidden.
+abbrev pub runs_collapsed : {X : Type 0} → Citation → (Arranged X → Arranged X → Bool) → List (Arranged X) → List (Arranged X)
+runs_collapsed c follows xs =
+    flat_map (λ r. collapsed_run (after_run c r))
+    (with_previous_test is_long (runs_of follows xs))
+
+-- Cites whose numbers are collapsed: those stand in a run whose numbers rise by one.
 abbrev pub numbers_collapsed : {X : Type 0} → Citation → List (Arranged X) → List (Arranged X)
-numbers_collapsed c xs = flat_map (λ r. collapsed_run (after_run c r)) (with_previous_test is_long (runs_of is_next_number xs))
+numbers_collapsed c xs = runs_collapsed c (is_next_number c.locators_end_runs) xs
 
 -- whether a year suffix is another one than the first
 abbrev pub is_further : Suffix → Bool

@@ -29,7 +29,7 @@ pub fn arrange<'a>(
         ≡ arranged (citation_layout_view style.now) has_purpose (map gathered_view cites.now)) }
 {
     let blocks = blocks_of(alloc, style, cites)?;
-    collapse(alloc, mode(has_purpose, style.collapse), &blocks)
+    collapse(alloc, style, mode(has_purpose, style.collapse), &blocks)
 }
 
 /// The mode by which a citation is collapsed, if it is.
@@ -42,17 +42,18 @@ fn mode(has_purpose: bool, collapse: Option<Collapse>) -> Option<Collapse>
 /// Blocks collapsed by a mode, or as they are where there is none.
 fn collapse<'a>(
     alloc: Global,
+    style: &Citation,
     mode: Option<Collapse>,
     blocks: &[Vec<Gathered<'a>>],
 ) -> Result<Vec<Arranged<'a>>, AllocError>
-    ensures { IfOk result (λ v. (c : styles.Citation)
-        → map (arranged_view c) v.items ≡ collapsed c mode (blocks_view blocks.now)) }
+    ensures { IfOk result (λ v. map (arranged_view (citation_layout_view style.now)) v.items
+        ≡ collapsed (citation_layout_view style.now) mode (blocks_view blocks.now)) }
 {
     match mode {
         None => uncollapsed_blocks(alloc, blocks),
         Some(Collapse::CitationNumber) => {
             let cites = uncollapsed_blocks(alloc, blocks)?;
-            collapse_numbers(alloc, &cites)
+            collapse_numbers(alloc, style.locators_end_runs, &cites)
         }
         Some(mode) => collapse_years(alloc, mode, blocks),
     }

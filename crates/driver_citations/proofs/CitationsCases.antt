@@ -60,6 +60,19 @@ not_doubled : plain_text (citation_of (Some (codes "”" ∷ [])) (layout (codes
 unfolding layout cite words
 not_doubled = refl
 
+-- where texts are joined the end of a delimiter meets the cite after it
+before_a_space : plain_text (citation_of (Some []) (layout (codes ")")) false (cite 0 (codes "A") ∷ cite 1 (codes " B") ∷ [])) ≡ codes "(A; B)"
+unfolding layout cite words
+before_a_space = refl
+
+before_a_comma : plain_text (citation_of (Some []) (layout (codes ")")) false (cite 0 (codes "A") ∷ cite 1 (codes ",B") ∷ [])) ≡ codes "(A;,B)"
+unfolding layout cite words
+before_a_comma = refl
+
+as_written : plain_text (citation_of None (layout (codes ")")) false (cite 0 (codes "A") ∷ cite 1 (codes " B") ∷ [])) ≡ codes "(A;  B)"
+unfolding layout cite words
+as_written = refl
+
 alone : plain_text (joined_alone None (layout (codes ")")) (words (codes "1") ∷ words (codes "1") ∷ [])) ≡ codes "(1; 1)"
 unfolding layout words
 alone = refl

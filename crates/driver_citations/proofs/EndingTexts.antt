@@ -10,7 +10,7 @@ use Rattle.rendering_tree.specs.Trees.{Child, Children, nothing, before, followe
 use Rattle.rendering_tree.specs.Views.{child_view, children_view}
 use Rattle.rendering_tree.specs.declared.element.ElemChild.{ElemChild}
 use Rattle.rendering_tree.proofs.SimplifySteps.{children-append}
-use Rattle.driver_citations.specs.Ends.{end_of, end_of_child, ended, ended_child}
+use Rattle.driver_citations.specs.Ends.{end_of, end_of_child, ended, ended_child, start_of, start_of_child}
 
 -- texts are one where their characters are
 pub same_characters : (a b : List ℕ) → IsUtf8 a → IsUtf8 b → bytes_eq a b ≡ bytes_eq (chars a) (chars b)
@@ -40,6 +40,11 @@ pub end_last : (xs : List ElemChild) (x : ElemChild) → 0 < length xs → x ≡
 end_last xs x some is =
     let n = length xs - 1 in
     sym (ap (λ ys. end_of (children_view ys)) (last_apart xs x some is) ∙ ap end_of (children-append (take n xs) (x ∷ [])) ∙ after_others (children_view (take n xs)) (child_view x))
+
+-- a list begins as its first child does
+pub start_first : (xs : List ElemChild) (x : ElemChild) → 0 < length xs → x ≡ get_or xs 0 x → start_of_child (child_view x) ≡ start_of (children_view xs)
+start_first [] x some is = absurd (let never : ⊥ = omega (arith, some) in never)
+start_first (y ∷ ys) x some is = ap (λ z. start_of_child (child_view z)) is
 
 -- a list of which the last child ends in another text
 ended_others : (end : List ℕ) (zs : Children) (y : Child) → ended end (followed_by zs (before y nothing)) ≡ followed_by zs (before (ended_child end y) nothing)

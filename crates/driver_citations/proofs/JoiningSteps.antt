@@ -12,8 +12,9 @@ use Rattle.rendering_tree.specs.declared.element.ElemChild.{ElemChild}
 use Rattle.rendering_tree.proofs.SimplifySteps.{flat-followed_by, followed_by-assoc, followed_by-nothing}
 use Rattle.rendering_tree.proofs.TreesReading.{keeps_tokens}
 use Rattle.rendering_style.specs.Styles.{Layout}
-use Rattle.driver_citations.specs.Citations.{Shown, affixed, citation_by, citation_look, citation_of, cite_after, entry_element, followed_by_text, is_printed, joined_cites, printed_cites, suffixed, text_after}
+use Rattle.driver_citations.specs.Citations.{Shown, affixed, citation_by, citation_look, citation_of, cite_after, entry_element, followed_by_text, is_printed, joined_cites, own_delimiter, printed_cites, suffixed, text_after}
 use Rattle.driver_citations.specs.Ends.{end_of}
+use Rattle.driver_citations.specs.Meeting.{delimiter_before}
 use Rattle.rendering_names.specs.Persons.{comma_and_space}
 use Rattle.driver_citations.specs.Standalone.{joined_alone, tree_after}
 use Rattle.driver_citations.specs.Joining.{finished, put_cite, put_cites, put_shown, shown_view, suffix_put, trees_put}
@@ -27,7 +28,7 @@ some_last (before y ys) x = refl
 pub put_after : (o : Option Quotes) (f : Formatting) (xs : Children) (ss : List Shown) → is_nothing xs ≡ false → fold (put_cite o f) xs ss ≡ fold (cite_after o f) xs ss
 put_after o f xs [] some = refl
 put_after o f xs (s ∷ ss) some =
-    let there = text_after o f (unwrap_or s.delimiter []) xs in
+    let there = text_after o f (own_delimiter o s) xs in
     ap (λ b. fold (put_cite o f) (followed_by (if b then xs else there) (before (entry_element s) nothing)) ss) some
     ∙ put_after o f (cite_after o f xs s) ss (some_last there (entry_element s))
 
@@ -42,7 +43,7 @@ finished_in_affixes o l (before x xs) some = refl
 -- cites after something are something
 some_cites : (o : Option Quotes) (f : Formatting) (xs : Children) (ss : List Shown) → is_nothing xs ≡ false → is_nothing (fold (cite_after o f) xs ss) ≡ false
 some_cites o f xs [] some = some
-some_cites o f xs (s ∷ ss) some = some_cites o f (cite_after o f xs s) ss (some_last (text_after o f (unwrap_or s.delimiter []) xs) (entry_element s))
+some_cites o f xs (s ∷ ss) some = some_cites o f (cite_after o f xs s) ss (some_last (text_after o f (own_delimiter o s) xs) (entry_element s))
 
 -- cites that were put together are the citation
 finished_by : (o : Option Quotes) (l : Layout) (p : Bool) (ss : List Shown) → finished o l p (fold (put_cite o (citation_look l)) nothing ss) ≡ citation_by o l p ss
@@ -99,15 +100,15 @@ suffix_after None f suffix xs =
     by (ends_in suffix (end_of (simplified xs)))
 
 -- one more tree is put
-pub tree_put : (o : Option Quotes) (f : Formatting) (between : List ℕ) (is_first : Bool) (now mid new all : Children) (x : ElemChildren) (rest items : List ElemChildren) → items ≡ x ∷ rest
-    → trees_put o f between is_first now (map tree_view items) ≡ all → mid ≡ (if is_first then now else text_after o f between now) → new ≡ followed_by mid (tree_view x)
+pub tree_put : (o : Option Quotes) (f : Formatting) (between own : List ℕ) (is_first : Bool) (now mid new all : Children) (x : ElemChildren) (rest items : List ElemChildren) → items ≡ x ∷ rest
+    → own ≡ delimiter_before o (tree_view x) between → trees_put o f between is_first now (map tree_view items) ≡ all → mid ≡ (if is_first then now else text_after o f own now) → new ≡ followed_by mid (tree_view x)
     → trees_put o f between false new (map tree_view rest) ≡ all
-tree_put o f between true now mid new all x rest items steps h m e =
+tree_put o f between own true now mid new all x rest items steps d h m e =
     ap (λ t. fold (tree_after o f between) t (map tree_view rest)) (e ∙ ap (λ t. followed_by t (tree_view x)) m)
     ∙ ap (λ xs. trees_put o f between true now (map tree_view xs)) (sym steps)
     ∙ h
-tree_put o f between false now mid new all x rest items steps h m e =
-    ap (λ t. fold (tree_after o f between) t (map tree_view rest)) (e ∙ ap (λ t. followed_by t (tree_view x)) m)
+tree_put o f between own false now mid new all x rest items steps d h m e =
+    ap (λ t. fold (tree_after o f between) t (map tree_view rest)) (e ∙ ap (λ t. followed_by t (tree_view x)) (m ∙ ap (λ cs. text_after o f cs now) d))
     ∙ ap (λ xs. trees_put o f between false now (map tree_view xs)) (sym steps)
     ∙ h
 

@@ -1,6 +1,7 @@
 -- Texts that meet the one in which a tree ends.
 use Rattle.std.proofs.Common.{◌≡◌, ℕ, ◌+◌, ◌-◌, ◌<◌, ◌≤◌, min, Bool, true, false, true≢false, List, [], ◌∷◌, ◌++◌, length, take, get_or, set, refl, sym, ap, ◌∙◌, arith, Option, Some, None}
 use Rattle.std.specs.Prelude.{MatchOption, if◌then◌else◌}
+use Rattle.std.specs.Option.{option_map_or}
 use Rattle.std.proofs.lemmas.List.{length-append, length-take, reverse-append, take-take, take_all, take_at}
 use Rattle.laws.specs.Text.{is_filled}
 use Rattle.rendering_page.specs.Joints.{first}
@@ -11,7 +12,7 @@ use Rattle.rendering_tree.specs.Trees.{Children, Elem}
 use Rattle.rendering_tree.specs.Views.{child_view, children_view}
 use Rattle.rendering_tree.specs.declared.element.ElemChild.{ElemChild}
 use Rattle.driver_citations.specs.Ends.{end_of, end_of_child, ended_child}
-use Rattle.driver_citations.specs.Meeting.{close_quote, last_of, left_after, met, met_before, met_child, met_list, without_last}
+use Rattle.driver_citations.specs.Meeting.{before_character, before_text, close_quote, gives_way, last_of, left_after, met, met_before, met_child, met_list, without_last}
 use Rattle.driver_citations.proofs.EndingTexts.{end_last, ended_last}
 
 -- nothing is cut
@@ -41,6 +42,25 @@ last_is cs ds c e = sym (ap last_of e ∙ ap first (reverse-append ds (c ∷ [])
 
 pub no_last : (cs : List ℕ) → cs ≡ [] → None ≡ last_of cs
 no_last cs e = sym (ap last_of e)
+
+-- a text before a character, without its last one or with it
+pub goes_before : (c : ℕ) (cs front new : List ℕ) (last : ℕ) (goes : Bool) → cs ≡ front ++ last ∷ [] → goes ≡ gives_way last c → new ≡ (if goes then front else cs) → new ≡ before_character c cs
+goes_before c cs front new last goes e is h =
+    h
+    ∙ ap (λ xs. if goes then xs else cs) (one_cut 0 cs cs front (Some last) (none_cut cs) e)
+    ∙ ap (λ b. if b then without_last 1 cs else cs) is
+    ∙ ap (λ o. if option_map_or (λ d. gives_way d c) o false then without_last 1 cs else cs) (last_is cs front last e)
+
+-- nothing goes of the empty text
+pub none_before : (c : ℕ) (cs : List ℕ) → cs ≡ [] → cs ≡ before_character c cs
+none_before c cs e = ap (λ o. if option_map_or (λ d. gives_way d c) o false then without_last 1 cs else cs) (no_last cs e)
+
+-- one text before another one
+pub before_first : (ds cs rest new : List ℕ) (c : ℕ) → ds ≡ c ∷ rest → new ≡ before_character c cs → new ≡ before_text ds cs
+before_first ds cs rest new c e h = h ∙ ap (λ xs. before_text xs cs) (sym e)
+
+pub before_none : (ds cs : List ℕ) → ds ≡ [] → cs ≡ before_text ds cs
+before_none ds cs e = ap (λ xs. before_text xs cs) (sym e)
 
 -- nothing meets the empty text
 pub met_empty : (quotes : Quotes) (cs ds : List ℕ) → is_filled cs ≡ false → cs ≡ met quotes cs ds

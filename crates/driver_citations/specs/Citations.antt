@@ -8,7 +8,7 @@ use Rattle.rendering_tree.specs.Trees.{Child, Children, Text, Elem, nothing, bef
 use Rattle.rendering_style.specs.Styles.{Layout}
 use Rattle.rendering.specs.Purposes.{layout_manner}
 use Rattle.driver_citations.specs.Ends.{end_of}
-use Rattle.driver_citations.specs.Meeting.{left_after, met_list}
+use Rattle.driver_citations.specs.Meeting.{delimiter_before, left_after, met_list}
 use Rattle.rendering_taxonomy.specs.declared.formatting.Formatting.{Formatting}
 
 -- the look of what a layout itself prints
@@ -44,9 +44,13 @@ pub record Shown : Type 0 where
 abbrev pub entry_element : Shown → Child
 entry_element s = Elem None (Some (Entry s.index)) s.tree
 
+-- the delimiter of a cite, as it stands before that
+abbrev pub own_delimiter : Option Quotes → Shown → List ℕ
+own_delimiter o s = delimiter_before o s.tree (unwrap_or s.delimiter [])
+
 -- a cite after others, and its delimiter before it
 abbrev pub cite_after : Option Quotes → Formatting → Children → Shown → Children
-cite_after o f xs s = followed_by (text_after o f (unwrap_or s.delimiter []) xs) (before (entry_element s) nothing)
+cite_after o f xs s = followed_by (text_after o f (own_delimiter o s) xs) (before (entry_element s) nothing)
 
 -- cites one after the other
 abbrev pub joined_cites : Option Quotes → Formatting → Shown → List Shown → Children

@@ -1,6 +1,6 @@
 -- Citations that are put together cite by cite.
 use Rattle.std.specs.Prelude.{ℕ, Bool, true, false, List, [], ◌∷◌, fold, if◌then◌else◌, Option, Some, None}
-use Rattle.std.specs.Option.{option_map, unwrap_or}
+use Rattle.std.specs.Option.{option_map}
 use Rattle.laws.specs.Text.{spelled}
 use Rattle.rendering_page.specs.Pages.{Quotes}
 use Rattle.rendering_page.specs.Tail.{ends_in}
@@ -8,7 +8,7 @@ use Rattle.rendering_taxonomy.specs.declared.formatting.Formatting.{Formatting}
 use Rattle.rendering_tree.specs.Trees.{Children, nothing, before, followed_by, is_nothing, simplified}
 use Rattle.rendering_tree.specs.Views.{tree_view}
 use Rattle.rendering_style.specs.Styles.{Layout}
-use Rattle.driver_citations.specs.Citations.{Shown, affixed, entry_element, followed_by_text, is_printed, text_after}
+use Rattle.driver_citations.specs.Citations.{Shown, affixed, entry_element, followed_by_text, is_printed, own_delimiter, text_after}
 use Rattle.driver_citations.specs.Ends.{end_of}
 use Rattle.driver_citations.specs.Standalone.{tree_after}
 use Rattle.driver_citations.specs.declared.citation.ShownCite.{ShownCite}
@@ -18,12 +18,12 @@ abbrev pub shown_view : ShownCite → Shown
 shown_view s = record { delimiter = option_map spelled s.delimiter; index = s.index; tree = tree_view s.tree }
 
 -- what is already there before the next cite
-abbrev pub delimited_after : Option Quotes → Formatting → Children → Option (List ℕ) → Children
-delimited_after o f xs delimiter = if is_nothing xs then xs else text_after o f (unwrap_or delimiter []) xs
+abbrev pub delimited_after : Option Quotes → Formatting → Children → List ℕ → Children
+delimited_after o f xs delimiter = if is_nothing xs then xs else text_after o f delimiter xs
 
 -- a cite after those that are already there
 abbrev pub put_cite : Option Quotes → Formatting → Children → Shown → Children
-put_cite o f xs s = followed_by (delimited_after o f xs s.delimiter) (before (entry_element s) nothing)
+put_cite o f xs s = followed_by (delimited_after o f xs (own_delimiter o s)) (before (entry_element s) nothing)
 
 -- the same, if it is printed
 abbrev pub put_shown : Option Quotes → Formatting → Children → Shown → Children

@@ -1,12 +1,12 @@
--- How a text meets the one in which a tree ends.
-use Rattle.std.specs.Prelude.{ℕ, ◌-◌, Bool, true, false, not, ◌&&◌, List, [], ◌∷◌, ◌++◌, length, take, reverse, find, if◌then◌else◌, Option}
+-- How a text meets the one in which a tree ends, and the one with which the next tree begins.
+use Rattle.std.specs.Prelude.{ℕ, ◌-◌, Bool, true, false, not, ◌==◌, ◌&&◌, ◌||◌, List, [], ◌∷◌, ◌++◌, length, take, reverse, find, if◌then◌else◌, Option, Some, None}
 use Rattle.std.specs.Option.{option_map_or, unwrap_or}
 use Rattle.laws.specs.Text.{is_filled}
 use Rattle.rendering_page.specs.Joints.{first, goes_inside, is_left_out, is_replaced, is_stop}
 use Rattle.rendering_page.specs.Pages.{Quotes}
 use Rattle.rendering_page.specs.Tail.{ends_in}
 use Rattle.rendering_tree.specs.Trees.{Child, Children}
-use Rattle.driver_citations.specs.Ends.{end_of, end_of_child, ended, ended_child}
+use Rattle.driver_citations.specs.Ends.{end_of, end_of_child, ended, ended_child, start_of}
 
 -- a text without its last characters, so many of them
 abbrev pub without_last : ℕ → List ℕ → List ℕ
@@ -80,3 +80,22 @@ met_child quotes ds x = ended_child (met quotes (end_of_child x) ds) x
 -- a list in which a text meets the end
 abbrev pub met_list : Quotes → List ℕ → Children → Children
 met_list quotes ds xs = ended (met quotes (end_of xs) ds) xs
+
+-- whether a character goes before another one: the same one, of which one is left, or one that takes its place
+abbrev pub gives_way : ℕ → ℕ → Bool
+gives_way last c = is_replaced last c || (last == c && is_left_out last c)
+
+-- a text before a character: its last one may go
+abbrev pub before_character : ℕ → List ℕ → List ℕ
+before_character c cs =
+    if option_map_or (λ last. gives_way last c) (last_of cs) false then without_last 1 cs else cs
+
+-- a text before another one
+abbrev pub before_text : List ℕ → List ℕ → List ℕ
+before_text [] cs = cs
+before_text (d ∷ ds) cs = before_character d cs
+
+-- a delimiter before a tree: where texts are joined it meets the text with which that begins
+abbrev pub delimiter_before : Option Quotes → Children → List ℕ → List ℕ
+delimiter_before None tree cs = cs
+delimiter_before (Some quotes) tree cs = before_text (start_of tree) cs

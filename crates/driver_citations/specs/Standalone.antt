@@ -12,6 +12,7 @@ use Rattle.rendering.specs.Words.{joining_quotes}
 use Rattle.rendering_page.specs.Pages.{Quotes, prints}
 use Rattle.driver_requests.specs.Requests.{Item, Request, plain_locator}
 use Rattle.driver_citations.specs.Citations.{citation_look, affixed, text_after}
+use Rattle.driver_citations.specs.Meeting.{delimiter_before}
 use Rattle.rendering_taxonomy.specs.declared.cite.IbidState.TheVariants as ibids
 use Rattle.rendering_taxonomy.specs.declared.cite.IdentifierUsage.TheVariants as usages
 
@@ -41,7 +42,7 @@ has_content tree = prints 0 (flat tree)
 
 -- a tree after others, and a text before it
 abbrev pub tree_after : Option Quotes → Formatting → List ℕ → Children → Children → Children
-tree_after o f between xs t = followed_by (text_after o f between xs) t
+tree_after o f between xs t = followed_by (text_after o f (delimiter_before o t between) xs) t
 
 -- trees one after the other, with the delimiter of the layout between them
 abbrev pub delimited : Option Quotes → Layout → Children → List Children → Children

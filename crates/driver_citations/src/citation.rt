@@ -3,7 +3,6 @@
 ghost use Rattle.std.specs.Prelude.{◌≡◌, map, IfOk, None, OnOk};
 ghost use Rattle.std.specs.Option.{option_map};
 ghost use Rattle.std.specs.Str.{chars};
-ghost use Rattle.laws.specs.Text.{spelled};
 ghost use Rattle.rendering_style.specs.Views.{layout_view};
 ghost use Rattle.rendering_tree.specs.Trees.{followed_by, simplified};
 ghost use Rattle.rendering_tree.specs.Views.{tree_view};
@@ -13,6 +12,7 @@ ghost use Rattle.driver_citations.specs.Joining.{delimited_after, finished, put_
 
 use crate::ending_text::{end_of, ends_in};
 use crate::layout_texts::{citation_look, push_after, push_own};
+use crate::meeting::delimiter_before;
 use rendering_style::Layout;
 use rendering_taxonomy::Formatting;
 use rendering_tree::{Elem, ElemChild, ElemChildren, ElemMeta, simplify_children};
@@ -28,8 +28,8 @@ pub struct ShownCite<'s> {
 }
 
 /// A citation: its cites in the affixes of the layout, or without these where one has a purpose; where none is shown, nothing. With
-/// `quotes` texts are joined: cites that print nothing are not shown, delimiters and the suffix meet the text before them, and these are the
-/// close quotes inside which punctuation goes.
+/// `quotes` texts are joined: cites that print nothing are not shown, delimiters and the suffix meet the text before them, delimiters also
+/// the one after them, and these are the close quotes inside which punctuation goes.
 pub fn citation_of(
     alloc: Global,
     layout: &Layout,
@@ -108,7 +108,13 @@ fn push_cite(
         index,
         tree,
     } = cite;
-    push_delimiter(alloc, look, quotes, delimiter, joined)?;
+    push_delimiter(
+        alloc,
+        look,
+        quotes,
+        delimiter_before(quotes, &tree, or_empty(delimiter)),
+        joined,
+    )?;
     joined.push(ElemChild::Elem(Elem {
         children: tree,
         display: None,
@@ -121,17 +127,17 @@ fn push_delimiter(
     alloc: Global,
     look: Formatting,
     quotes: Option<&[&str]>,
-    delimiter: Option<&str>,
+    delimiter: &str,
     joined: &mut ElemChildren,
 ) -> Result<(), AllocError>
     ensures { OnOk result (tree_view joined.new
         ≡ delimited_after (option_map (λ q. quotes_view q.now) quotes.entry) look
-        (tree_view joined.old) (option_map spelled delimiter.entry)) }
+        (tree_view joined.old) (chars delimiter.now)) }
 {
     if joined.is_empty() {
         return Ok(());
     }
-    push_after(alloc, look, quotes, or_empty(delimiter), joined)
+    push_after(alloc, look, quotes, delimiter, joined)
 }
 
 /// What is printed in the affixes of the layout, or without these where a cite has a purpose, if anything is printed.

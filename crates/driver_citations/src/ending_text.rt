@@ -1,10 +1,10 @@
-//! The text in which a tree ends.
+//! The text in which a tree ends, and the one with which it begins.
 
 ghost use Rattle.std.specs.Prelude.{◌≡◌, bytes_eq, drop, length};
 ghost use Rattle.std.specs.Str.{chars};
 ghost use Rattle.rendering_page.specs.Tail.{ends_in};
 ghost use Rattle.rendering_tree.specs.Views.{child_view, tree_view};
-ghost use Rattle.driver_citations.specs.Ends.{end_of, end_of_child};
+ghost use Rattle.driver_citations.specs.Ends.{end_of, end_of_child, start_of, start_of_child};
 
 use rendering_tree::{ElemChild, ElemChildren};
 use texts::{no_text, split_first};
@@ -28,6 +28,29 @@ fn end_of_child(part: &ElemChild) -> &str
     match part {
         ElemChild::Text(text) => text.text.as_str(),
         ElemChild::Elem(elem) => end_of(&elem.children),
+        _ => no_text(),
+    }
+}
+
+/// The text with which a list begins: its first child's, and so on inwards; the empty one where that is no text.
+#[cycle(start)]
+pub(crate) fn start_of(parts: &ElemChildren) -> &str
+    ensures { chars result.now ≡ start_of (tree_view parts.now) }
+{
+    match parts.0.first() {
+        Some(part) => start_of_child(part),
+        None => no_text(),
+    }
+}
+
+/// The text with which a child begins; the empty one where it does not begin with a text.
+#[cycle(start)]
+fn start_of_child(part: &ElemChild) -> &str
+    ensures { chars result.now ≡ start_of_child (child_view part.now) }
+{
+    match part {
+        ElemChild::Text(text) => text.text.as_str(),
+        ElemChild::Elem(elem) => start_of(&elem.children),
         _ => no_text(),
     }
 }

@@ -1,16 +1,17 @@
-//! Texts that meet the one in which a tree ends.
+//! Texts that meet the one in which a tree ends, and the one with which the next tree begins.
 
 ghost use Rattle.std.specs.Prelude.{◌≡◌, if◌then◌else◌, IfOk, OnOk};
+ghost use Rattle.std.specs.Option.{option_map};
 ghost use Rattle.std.specs.Str.{chars};
 ghost use Rattle.laws.specs.Text.{characters};
 ghost use Rattle.rendering_page.specs.Views.{quotes_view};
 ghost use Rattle.rendering_tree.specs.Views.{child_view, children_view, tree_view};
 ghost use Rattle.driver_citations.specs.Ends.{end_of, end_of_child};
-ghost use Rattle.driver_citations.specs.Meeting.{close_quote, is_stopped, last_of, leaves_out, left_after, makes_room, met, met_before, met_by, met_child, met_list, with_inside, with_room, without_last};
+ghost use Rattle.driver_citations.specs.Meeting.{before_character, before_text, close_quote, delimiter_before, gives_way, is_stopped, last_of, leaves_out, left_after, makes_room, met, met_before, met_by, met_child, met_list, with_inside, with_room, without_last};
 
-use crate::ending_text::{char_count, ends_in};
+use crate::ending_text::{char_count, ends_in, start_of};
 use rendering_page::{goes_inside, is_left_out, is_replaced, is_stop, pop_made, split_last};
-use rendering_tree::{Elem, ElemChild, Formatted};
+use rendering_tree::{Elem, ElemChild, ElemChildren, Formatted};
 use std::alloc::AllocError;
 use texts::{has_text, no_text, push_character, push_text, split_first};
 
@@ -94,7 +95,49 @@ fn meet<'t>(own: &mut String, quotes: &[&str], text: &'t str) -> Result<&'t str,
     Ok(left(is_taken, rest, text))
 }
 
-/// A text, or what stands after its first character where that is taken.
+/// A delimiter before a tree. With `quotes` texts are joined, and it meets the text with which that begins.
+pub(crate) fn delimiter_before<'t>(
+    quotes: Option<&[&str]>,
+    tree: &ElemChildren,
+    delimiter: &'t str,
+) -> &'t str
+    ensures { chars result.now ≡ delimiter_before (option_map (λ q. quotes_view q.now) quotes.entry)
+        (tree_view tree.now) (chars delimiter.now) }
+{
+    match quotes {
+        Some(_) => before_text(start_of(tree), delimiter),
+        None => delimiter,
+    }
+}
+
+/// A text before another one.
+fn before_text<'t>(next: &str, text: &'t str) -> &'t str
+    ensures { chars result.now ≡ before_text (chars next.now) (chars text.now) }
+{
+    match split_first(next) {
+        Some((c, _)) => before_character(c, text),
+        None => text,
+    }
+}
+
+/// A text before a character: its last one may go.
+fn before_character<'t>(c: char, text: &'t str) -> &'t str
+    ensures { chars result.now ≡ before_character c (chars text.now) }
+{
+    match split_last(text) {
+        Some((last, front)) => left(gives_way(last, c), front, text),
+        None => text,
+    }
+}
+
+/// Whether a character goes before another one: the same one, of which one is left, or one that takes its place.
+fn gives_way(last: char, c: char) -> bool
+    ensures { result ≡ gives_way last c }
+{
+    is_replaced(last, c) || (last == c && is_left_out(last, c))
+}
+
+/// A text, or what stands after its first character or before its last one where that is taken.
 fn left<'t>(is_taken: bool, rest: &'t str, text: &'t str) -> &'t str
     ensures { chars result.now ≡ (if is_taken then chars rest.now else chars text.now) }
 {

@@ -20,6 +20,7 @@ ghost use Rattle.rendering_context.specs.Views.{cite_properties_view};
 use crate::citation::{affixed, append};
 use crate::contents::has_content;
 use crate::layout_texts::{citation_look, push_after};
+use crate::meeting::delimiter_before;
 use crate::request_parts::{context_for, plain_locator};
 use driver_requests::{CitationItem, CitationRequest};
 use rendering::{Effort, StyleContext};
@@ -190,7 +191,14 @@ fn delimited(
     let mut inside = ElemChildren::new(alloc);
     let mut is_first = true;
     for tree in trees {
-        push_between(alloc, look, quotes, between, is_first, &mut inside)?;
+        push_between(
+            alloc,
+            look,
+            quotes,
+            delimiter_before(quotes, &tree, between),
+            is_first,
+            &mut inside,
+        )?;
         append(tree, &mut inside)?;
         is_first = false;
     }

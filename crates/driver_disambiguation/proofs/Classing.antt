@@ -16,10 +16,9 @@ use Rattle.std.proofs.lemmas.Slice.Zip.{seconds-zip}
 use Rattle.laws.specs.Text.{characters}
 use Rattle.laws.proofs.Equality.{Shows-strings}
 use Rattle.rendering_tree.proofs.ViewsEquality.{agreed}
-use Rattle.rendering_context.specs.Cites.{allows_suffix}
-use Rattle.rendering_context.specs.Views.{state_view}
 use Rattle.driver_requests.specs.CitedEntries.{once}
 use Rattle.driver_names.specs.Prints as prints
+use Rattle.driver_names.specs.Prints.{may_be_alike}
 use Rattle.driver_disambiguation.specs.Classes as classes
 use Rattle.driver_disambiguation.specs.Classes.{is_mixed, parts}
 use Rattle.driver_disambiguation.specs.Grouping.{allowing, if_mixed, is_alike, of_number, seconds, under}
@@ -83,10 +82,10 @@ classes_are texts numbers cites groups shared cs numbered members seconds_are ar
     let each : (λ n. class_view (under groups n)) ≡ (λ n. map f (h n)) = fun_ext (λ n. group_view xs n (under groups n) (members n)) in
     let all : map class_view (map (under groups) shared) ≡ map (map f) (parts is_alike xs) =
     map-map class_view (under groups) shared ∙ (λ j. map (each j) (seconds_are j)) ∙ sym (map-map (map f) h (seconds xs)) ∙ ap (map (map f)) (seconds_parts xs) in
-    let beside = All-filter (λ p. allows_suffix (state_view p.1.state)) G zs (numbers_beside (number_of texts) cites numbers numbered.1) in
-    let viewed : map f xs ≡ filter (λ s. allows_suffix s.state) (map printed_view cites) =
-    map-filter f (λ p. allows_suffix (state_view p.1.state)) (λ s. allows_suffix s.state) (λ p. refl) zs
-    ∙ ap (filter (λ s. allows_suffix s.state)) (sym (map-map printed_view (λ p. p.1) zs) ∙ ap (map printed_view) (seconds-zip numbers cites (sym (numbers_length (number_of texts) cites numbers numbered.1)))) in
+    let beside = All-filter (λ p. may_be_alike (printed_view p.1)) G zs (numbers_beside (number_of texts) cites numbers numbered.1) in
+    let viewed : map f xs ≡ filter may_be_alike (map printed_view cites) =
+    map-filter f (λ p. may_be_alike (printed_view p.1)) may_be_alike (λ p. refl) zs
+    ∙ ap (filter may_be_alike) (sym (map-map printed_view (λ p. p.1) zs) ∙ ap (map printed_view) (seconds-zip numbers cites (sym (numbers_length (number_of texts) cites numbers numbered.1)))) in
     view_items cs
     ∙ ap (map class_view) are_mixed
     ∙ mixed (map (under groups) shared)

@@ -9,18 +9,18 @@ use Rattle.std.proofs.lemmas.Slice.Zip.{get_or-zip, seconds-zip}
 use Rattle.std.proofs.lemmas.List.Elements.{All-append, All-cons, All-filter, All-head, All-nil, All-tail, filter-append}
 use Rattle.std.proofs.lemmas.List.Sums.{length-filter}
 use Rattle.std.proofs.lemmas.Bool.{eqb-true, eq-eqb}
-use Rattle.rendering_context.specs.Cites.{allows_suffix}
-use Rattle.rendering_context.specs.Views.{state_view}
 use Rattle.driver_disambiguation.specs.Classes.{part_at}
 use Rattle.driver_disambiguation.specs.Grouping.{allowing, is_alike, number_if_second, of_number, put_where, second_where, seconds, seconds_after, under}
+use Rattle.driver_names.specs.Prints.{may_be_alike}
+use Rattle.driver_names.specs.Views.{printed_view}
 use Rattle.driver_names.specs.declared.printed.Printed.{Printed}
 use Rattle.driver_disambiguation.proofs.Lists.{map-cond}
 
--- whether a cite may still be given a year suffix
+-- whether a cite may be alike to those of other entries
 abbrev pub allows : ℕ × Printed → Bool
-allows p = allows_suffix (state_view p.1.state)
+allows p = may_be_alike (printed_view p.1)
 
--- one cite more, where it may be given a year suffix
+-- one cite more, where it may be alike to others
 allowing_more : (zs : List (ℕ × Printed)) (i : ℕ) (p : ℕ × Printed) (b : Bool) → i < length zs → p ≡ get_or zs i p → b ≡ allows p
     → allowing (take (i + 1) zs) ≡ allowing (take i zs) ++ cond b (p ∷ []) []
 allowing_more zs i p b low is allowed =

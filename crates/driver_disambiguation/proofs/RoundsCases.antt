@@ -1,5 +1,5 @@
 -- Cases of states, computed.
-use Rattle.std.proofs.Common.{◌≡◌, ℕ, Bool, true, false, cond, ◌&&◌, List, [], ◌∷◌, codes, refl, ap, Some, None}
+use Rattle.std.proofs.Common.{◌≡◌, ℕ, Bool, true, false, cond, ◌&&◌, List, [], ◌∷◌, ◌++◌, codes, refl, ap, Some, None}
 use Rattle.std.specs.Prelude.{◌==◌, nat_lt}
 use Rattle.literature_values.specs.PersonViews.{Named}
 use Rattle.rendering_taxonomy.specs.Formats.{plain}
@@ -33,7 +33,7 @@ dated cs = before (Elem None (Some metas.Date) (before (Text plain cs) nothing))
 
 -- a cite that prints a date alone
 cite : Citation → ℕ → List ℕ → Candidate
-cite c entry cs = record { entry = entry; number = entry; has_date = true; style = adding_suffix c; printed = λ state. dated cs; met_disambiguate = false; names = None }
+cite c entry cs = record { entry = entry; number = entry; has_date = true; style = adding_suffix c; repeats = false; printed = λ state. dated cs; met_disambiguate = false; names = None }
 
 two_alike : (c : Citation) → (disambiguated false 2 (cite c 0 (codes "A") ∷ cite c 1 (codes "A") ∷ cite c 1 (codes "A") ∷ [])).states ≡ by_suffix 0 ∷ by_suffix 1 ∷ []
 unfolding cite dated adding_suffix
@@ -57,7 +57,7 @@ branching cs ds state = dated cs
 
 -- a cite for which the test `disambiguate` was evaluated
 asked : Citation → ℕ → List ℕ → Candidate
-asked c entry ds = record { entry = entry; number = entry; has_date = true; style = adding_suffix c; printed = branching (codes "Kwan") ds; met_disambiguate = true; names = None }
+asked c entry ds = record { entry = entry; number = entry; has_date = true; style = adding_suffix c; repeats = false; printed = branching (codes "Kwan") ds; met_disambiguate = true; names = None }
 
 -- all cites of the first entry are passed over
 but_the_first : (c : Citation) → (disambiguated false 2 (asked c 0 (codes "T") ∷ asked c 0 (codes "T") ∷ asked c 1 (codes "U") ∷ [])).states ≡ undisambiguated ∷ by_choose ∷ []
@@ -106,7 +106,7 @@ authors cs state =
 
 -- a cite of two authors, of whom one is shown
 authored : Citation → ℕ → List ℕ → Candidate
-authored c entry cs = record { entry = entry; number = entry; has_date = true; style = adding_suffix c; printed = authors cs; met_disambiguate = false; names = Some (two_shown 1) }
+authored c entry cs = record { entry = entry; number = entry; has_date = true; style = adding_suffix c; repeats = false; printed = authors cs; met_disambiguate = false; names = Some (two_shown 1) }
 
 more_names : (c : Citation) → (disambiguated true 2 (authored c 0 (codes "Lee") ∷ authored c 1 (codes "Poe") ∷ [])).states ≡ by_names (two_shown 2) ∷ by_names (two_shown 2) ∷ []
 unfolding authored authors shown_of person two_shown adding_suffix
@@ -157,7 +157,7 @@ dated_authors family cs state =
 
 -- a cite of two authors, of whom one is shown, with a date
 dated_cite : Citation → ℕ → List ℕ → List ℕ → Candidate
-dated_cite c entry family cs = record { entry = entry; number = entry; has_date = true; style = adding_suffix c; printed = dated_authors family cs; met_disambiguate = false; names = Some (two_shown 1) }
+dated_cite c entry family cs = record { entry = entry; number = entry; has_date = true; style = adding_suffix c; repeats = false; printed = dated_authors family cs; met_disambiguate = false; names = Some (two_shown 1) }
 
 -- names of two cites in the first round, of the third in the second, year suffixes of all in the third
 third_round :
@@ -166,6 +166,24 @@ third_round :
     ≡ by_suffix 0 ∷ by_suffix 1 ∷ by_suffix 2 ∷ []
 unfolding dated_cite dated_authors printed_first dated person two_shown adding_suffix
 third_round c = refl
+
+-- what a cite prints that only repeats the one before it
+repeated : DisambiguateState → Children
+repeated state = before (Text plain (codes "ibid.")) nothing
+
+-- a cite that prints a date alone, and one after it that prints `ibid.`, in a style that lets this be alike to none or not
+then_ibid : Bool → Citation → ℕ → List ℕ → List Candidate
+then_ibid repeats c entry cs = cite c entry cs ∷ record (cite c entry cs) { repeats = repeats; printed = repeated } ∷ []
+
+-- two entries, each of which is repeated by `ibid.`, remain as they are
+ibids_apart : (c : Citation) → (disambiguated false 2 (then_ibid true c 0 (codes "A") ++ then_ibid true c 1 (codes "B"))).states ≡ undisambiguated ∷ undisambiguated ∷ []
+unfolding cite dated adding_suffix repeated then_ibid
+ibids_apart c = refl
+
+-- in other styles they have year suffixes
+ibids_alike : (c : Citation) → (disambiguated false 2 (then_ibid false c 0 (codes "A") ++ then_ibid false c 1 (codes "B"))).states ≡ by_suffix 0 ∷ by_suffix 1 ∷ []
+unfolding cite dated adding_suffix repeated then_ibid
+ibids_alike c = refl
 
 -- a style that leaves out the first of alike cites, as before
 first_left_out : (o : Origin) (s : Printed) (ss : List Printed) → states_by_choose o (record s { first_chooses_too = false } ∷ ss) ≡ flat_map (choose_beside o s.entry) ss

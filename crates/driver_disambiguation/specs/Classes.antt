@@ -2,9 +2,8 @@
 use Rattle.std.specs.Prelude.{ℕ, Bool, ◌==◌, nat_eq, nat_lt, List, [], ◌∷◌, map, filter, count_by, length, take, if◌then◌else◌}
 use Rattle.std.specs.List.{flat_map, enumerate_from}
 use Rattle.std.specs.Str.{bytes_eq}
-use Rattle.rendering_context.specs.Cites.{allows_suffix}
 use Rattle.driver_requests.specs.CitedEntries.{once}
-use Rattle.driver_names.specs.Prints.{Candidate, Printed, printed_as}
+use Rattle.driver_names.specs.Prints.{Candidate, Printed, may_be_alike, printed_as}
 use Rattle.driver_disambiguation.specs.States.{States, state_of}
 
 -- a cite by the states of a round
@@ -31,6 +30,6 @@ is_alike s t = bytes_eq s.text t.text
 abbrev pub is_mixed : List Printed → Bool
 is_mixed ss = nat_lt 1 (length (entries_of ss))
 
--- The classes: cites that may still be given a year suffix, in parts of those that print alike; parts of one entry alone are none.
+-- The classes: cites that may be alike to those of other entries, in parts of those that print alike; parts of one entry alone are none.
 abbrev pub classes : List Printed → List (List Printed)
-classes ss = filter is_mixed (parts is_alike (filter (λ s. allows_suffix s.state) ss))
+classes ss = filter is_mixed (parts is_alike (filter may_be_alike ss))

@@ -2,15 +2,14 @@
 use Rattle.std.specs.Prelude.{ℕ, Bool, ◌==◌, nat_eq, List, [], ◌∷◌, ◌++◌, map, filter, count_by, get_or, length, Vec, if◌then◌else◌}
 use Rattle.std.specs.Global.{Global}
 use Rattle.std.specs.Borrow.{Bor}
-use Rattle.rendering_context.specs.Cites.{allows_suffix}
-use Rattle.rendering_context.specs.Views.{state_view}
 use Rattle.driver_disambiguation.specs.Classes.{is_mixed}
-use Rattle.driver_names.specs.Views.{class_view}
+use Rattle.driver_names.specs.Prints.{may_be_alike}
+use Rattle.driver_names.specs.Views.{class_view, printed_view}
 use Rattle.driver_names.specs.declared.printed.Printed.{Printed}
 
--- the cites that may still be given a year suffix
+-- the cites that may be alike to those of other entries
 abbrev pub allowing : List (ℕ × Printed) → List (ℕ × Printed)
-allowing ps = filter (λ p. allows_suffix (state_view p.1.state)) ps
+allowing ps = filter (λ p. may_be_alike (printed_view p.1)) ps
 
 -- whether two cites have one number
 abbrev pub is_alike : ℕ × Printed → ℕ × Printed → Bool

@@ -9,6 +9,7 @@ use Rattle.driver_requests.specs.Suffixes.{Origin}
 use Rattle.driver_disambiguation.specs.States.{States, undisambiguated_states, states_after, is_given_to}
 use Rattle.driver_names.specs.Prints.{GivenState, given_to, Candidate, Printed, prints_date}
 use Rattle.driver_disambiguation.specs.Classes.{printed_under, entries_of, classes}
+use Rattle.driver_names.specs.FirstNames.{first_origin}
 use Rattle.driver_names.specs.Names.{states_by_names}
 
 -- whether a state was given to an entry of a class
@@ -65,6 +66,14 @@ given_by adds_names has_dates gs o ss =
 -- what was given in the round, with what the class of a number adds
 abbrev pub given_with_class : Bool → Bool → ℕ → List GivenState → ℕ × List Printed → List GivenState
 given_with_class adds_names has_dates round gs p = given_by adds_names has_dates gs (record { round = round; class = p.0 }) p.1
+
+-- what names alone give to classes, one after the other
+abbrev pub names_given_to : Bool → List (List Printed) → List GivenState
+names_given_to adds_names cs = flat_map (states_by_names adds_names first_origin) cs
+
+-- what names alone give to the classes of cites
+abbrev pub names_given : Bool → List Printed → List GivenState
+names_given adds_names ss = names_given_to adds_names (classes ss)
 
 -- what a round gives to its classes, one after the other
 abbrev pub round_given : Bool → ℕ → List Printed → List GivenState

@@ -13,7 +13,7 @@ use driver_names::Printed;
 use std::alloc::{AllocError, Global};
 use std::collections::BTreeMap;
 
-/// Cites that may still be given a year suffix, in groups of those that print one text.
+/// Cites that may be alike to those of other entries, in groups of those that print one text.
 #[derive(Drop)]
 struct Groups<'a> {
     /// The cites of each group, by its number.
@@ -22,8 +22,8 @@ struct Groups<'a> {
     shared: Vec<usize>,
 }
 
-/// The classes: cites that may still be given a year suffix, in parts of those that print alike, in the order of their second members.
-/// Cites of one entry alone are no class.
+/// The classes: cites that may be alike to those of other entries, in parts of those that print alike, in the order of their second
+/// members. Cites of one entry alone are no class.
 pub(crate) fn classes<'a>(
     alloc: Global,
     texts: &BTreeMap<HashedText, usize>,
@@ -38,7 +38,7 @@ pub(crate) fn classes<'a>(
     mixed_parts(alloc, groups.members.as_slice(), groups.shared.as_slice())
 }
 
-/// The cites that may still be given a year suffix, in so many groups by their numbers.
+/// The cites that may be alike to those of other entries, in so many groups by their numbers.
 fn grouped<'a>(
     alloc: Global,
     count: usize,
@@ -56,7 +56,7 @@ fn grouped<'a>(
     let mut members = no_groups(alloc, count)?;
     let mut shared = Vec::new(alloc);
     for (index, cite) in cites.iter().enumerate() {
-        let is_wanted = cite.allows_suffix();
+        let is_wanted = cite.may_be_alike();
         add_where(&mut members, &mut shared, numbers[index], cite, is_wanted)?;
     }
     Ok(Groups { members, shared })

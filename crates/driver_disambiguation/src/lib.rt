@@ -16,4 +16,5 @@ mod year_suffixes;
 pub use driver_names::{Candidate, GivenState, Printed};
 pub use given_suffixes::suffixes;
 pub use printed_cites::PrintedCites;
+pub use round::append_given;
 pub use states::update_states;

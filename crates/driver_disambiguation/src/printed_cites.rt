@@ -5,7 +5,7 @@ ghost use Rattle.driver_disambiguation.specs.Numbered.{AreNumbered};
 use crate::classes::classes;
 use crate::hashed_text::HashedText;
 use crate::numbers::{number_of, numbers_of};
-use crate::round::{given_to_classes, some_prints_date};
+use crate::round::{given_to_classes, names_given, some_prints_date};
 use driver_names::{GivenState, Printed, plain_text};
 use driver_requests::DriverError;
 use rendering_context::DisambiguateState;
@@ -103,6 +103,23 @@ impl PrintedCites {
             round,
             classes.as_slice(),
         )
+    }
+
+    /// What names alone give to the entries of cites, class by class.
+    ///
+    /// # Errors
+    /// Out of memory.
+    pub fn names_given(
+        &self,
+        alloc: Global,
+        adds_names: bool,
+    ) -> Result<Vec<GivenState>, AllocError>
+        ensures { IfOk result (λ g. given_states_view g.items
+            ≡ rounds.names_given adds_names (printed_cites_view self.now)) }
+    {
+        let cites = self.cites.as_slice();
+        let classes = classes(alloc, &self.texts, self.numbers.as_slice(), cites)?;
+        names_given(alloc, adds_names, classes.as_slice())
     }
 
     /// Makes the cite at an index the one that prints a tree by another state.

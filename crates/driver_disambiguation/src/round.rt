@@ -1,13 +1,14 @@
 //! Rounds in which states are given, class by class.
 
-ghost use Rattle.std.specs.Prelude.{◌≡◌, ◌∷◌, ◌++◌, [], List, map, OnOk};
+ghost use Rattle.std.specs.Prelude.{◌≡◌, ◌∷◌, ◌++◌, [], List, map, IfOk, OnOk};
 ghost use Rattle.laws.specs.Results.{Gives, Leaves};
 ghost use Rattle.driver_requests.specs.Errors.{overflow_of};
 ghost use Rattle.driver_disambiguation.specs.Gathered.{AllInRange, AreEntriesOf, given_to_classes};
 ghost use Rattle.driver_names.specs.Prints as prints;
 ghost use Rattle.driver_names.specs.Names as names;
 ghost use Rattle.driver_disambiguation.specs.Rounds as rounds;
-ghost use Rattle.driver_disambiguation.specs.Rounds.{is_given_to_class, unless_given};
+ghost use Rattle.driver_disambiguation.specs.Rounds.{is_given_to_class, names_given_to, unless_given};
+ghost use Rattle.driver_names.specs.FirstNames.{first_origin};
 ghost use Rattle.driver_names.specs.Prints.{prints_date};
 ghost use Rattle.std.specs.List.{list_any};
 ghost use Rattle.driver_requests.specs.SuffixViews.{origin_view};
@@ -130,6 +131,61 @@ fn give_suffixes(
         entries,
         states_by_suffixes(alloc, has_dates, origin, class)?,
     )?;
+    Ok(())
+}
+
+/// What names alone give to classes, one after the other.
+pub(crate) fn names_given(
+    alloc: Global,
+    adds_names: bool,
+    classes: &[Vec<&Printed>],
+) -> Result<Vec<GivenState>, AllocError>
+    ensures { IfOk result (λ g. given_states_view g.items
+        ≡ names_given_to adds_names (map (λ c. class_view c.items) classes.now)) }
+{
+    let mut given = Vec::new(alloc);
+    for class in classes {
+        give_names(alloc, adds_names, class.as_slice(), &mut given)?;
+    }
+    Ok(given)
+}
+
+/// Appends what names alone give to a class.
+fn give_names(
+    alloc: Global,
+    adds_names: bool,
+    class: &[&Printed],
+    given: &mut Vec<GivenState>,
+) -> Result<(), AllocError>
+    ensures { OnOk result (given_states_view given.new.items ≡ given_states_view given.old.items
+        ++ names.states_by_names adds_names first_origin (class_view class.now)) }
+{
+    let origin = Origin { round: 0, class: 0 };
+    let more = states_by_names(alloc, adds_names, origin, class)?;
+    append_given(more, given)?;
+    Ok(())
+}
+
+/// Appends states that are given.
+///
+/// # Errors
+/// Out of memory.
+pub fn append_given(more: Vec<GivenState>, given: &mut Vec<GivenState>) -> Result<(), AllocError>
+    ensures { OnOk result (given_states_view given.new.items
+        ≡ given_states_view given.old.items ++ given_states_view more.items) }
+{
+    for one in more {
+        push_given(given, one)?;
+    }
+    Ok(())
+}
+
+/// Appends a state that is given.
+fn push_given(given: &mut Vec<GivenState>, one: GivenState) -> Result<(), AllocError>
+    ensures { OnOk result (given_states_view given.new.items
+        ≡ given_states_view given.old.items ++ given_states_view (one ∷ [])) }
+{
+    given.push(one)?;
     Ok(())
 }
 

@@ -3,6 +3,7 @@ use Rattle.std.proofs.Common.{arith, ◌≡◌, ℕ, zero, suc, ◌+◌, ◌<◌
 use Rattle.std.specs.Prelude.{◌==◌, count_by}
 use Rattle.std.specs.List.{AllByRecursion, enumerate_from, flat_map, list_any, range_with_len, reduce, slice_get}
 use Rattle.std.specs.Option.{option_and_then, option_map, option_map_or, unwrap_or}
+use Rattle.std.proofs.lemmas.Bool.{and_parts}
 use Rattle.std.proofs.lemmas.List.{get_or-map}
 use Rattle.std.proofs.lemmas.List.Elements.{All-contains, All-from_recursion, Contains-append_cases, Contains-append_right, recursion_from_All}
 use Rattle.std.proofs.lemmas.List.FromFn.{get_or-enumerate_from, length-enumerate_from}
@@ -13,7 +14,7 @@ use Rattle.rendering_people.specs.Properties.{Properties, prints_more}
 use Rattle.rendering_context.specs.Cites.{DisambiguateState, undisambiguated, by_names, by_choose, by_suffix, allows_suffix, greater_state, may_change}
 use Rattle.driver_requests.specs.CitedEntries.{once}
 use Rattle.driver_requests.specs.Suffixes.{Origin, Suffix}
-use Rattle.driver_names.specs.Prints.{GivenState, given_to, Candidate, Printed, prints_date}
+use Rattle.driver_names.specs.Prints.{GivenState, given_to, Candidate, Printed, may_be_alike, only_repeats, prints_date}
 use Rattle.driver_disambiguation.specs.States.{States, giver_of, is_given_to, is_suffix, joined_for, state_of, states_after, suffix_given, suffix_index}
 use Rattle.driver_disambiguation.specs.Classes.{classes, entries_of, is_alike, is_mixed, part_at, parts, printed_under}
 use Rattle.driver_names.specs.Names.{Member, all_shown_up_to, distinguished, distinguished_at, distinguished_by, is_newly_distinguished, states_by_names, states_by_names_of, member, members, names_may_change, own_names, people_compared, raises, rule_for, showing_up_to, with_raised}
@@ -155,8 +156,10 @@ module _ (E : ℕ → Type 0) where
 
   in_classes : (ss : List Printed) → AllByRecursion (λ (s : Printed). allows_suffix s.state ≡ true → OfPrinted s) ss → AllByRecursion (AllByRecursion OfPrinted) (classes ss)
   in_classes ss h =
-      let left = filter (λ (s : Printed). allows_suffix s.state) ss in
-      filter_all (AllByRecursion OfPrinted) is_mixed (parts is_alike left) (in_parts OfPrinted is_alike left (passed_all OfPrinted (λ (s : Printed). allows_suffix s.state) ss h))
+      let left = filter may_be_alike ss in
+      let wanted = weaker_all (λ (s : Printed). allows_suffix s.state ≡ true → OfPrinted s) (λ (s : Printed). may_be_alike s ≡ true → OfPrinted s)
+      (λ s k e. k (and_parts (allows_suffix s.state) (not (only_repeats s)) e).0) ss h in
+      filter_all (AllByRecursion OfPrinted) is_mixed (parts is_alike left) (in_parts OfPrinted is_alike left (passed_all OfPrinted may_be_alike ss wanted))
 
   -- what holds of each entry whose cites may still be given a year suffix holds of each that the round gives something to
   pub round_all : (adds_names : Bool) (round : ℕ) (ss : List Printed) → AllByRecursion (λ (s : Printed). allows_suffix s.state ≡ true → OfPrinted s) ss → AllByRecursion OfGiven (round_given adds_names round ss)

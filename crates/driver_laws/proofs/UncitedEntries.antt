@@ -14,7 +14,7 @@ use Rattle.driver_bibliography.specs.Items.{items_of}
 use Rattle.driver_rounds.specs.Documents.{Document, order_in}
 use Rattle.driver.specs.Finish.{Rendered, citation_in, finish, item_of_entry}
 use Rattle.driver_laws.specs.Laws.{UncitedEntriesChangeNothing}
-use Rattle.driver_rounds.specs.FirstPrints.{FirstPrint, disambiguated_in, first_print, first_rule, first_states, flattened, numbered_after, with_first_names}
+use Rattle.driver_rounds.specs.FirstPrints.{FirstPrint, disambiguated_in, first_print, first_naming, first_states, flattened, numbered_after, with_first_names}
 use Rattle.driver.specs.Stages.{finals_in}
 
 module _ {P : Type 0} (same : P → P → Bool) (d : Document P) where
@@ -31,7 +31,7 @@ module _ {P : Type 0} (same : P → P → Bool) (d : Document P) where
   abbrev prints_by : (Option (Cite P) × Cite P → Numbered P) → List (List (FirstPrint P))
   prints_by number =
       let pairs = with_previous None (cites_of d.requests) in
-      map (map (λ p. first_print (with_first_names (first_states (first_rule d.requests) (length (cited d.requests)) (flattened (map (map number) pairs))) (number p)))) pairs
+      map (map (λ p. first_print (with_first_names (first_states (first_naming d.requests) (length (cited d.requests)) (flattened (map (map number) pairs))) (number p)))) pairs
 
   -- those of cites that are numbered in an order
   abbrev prints_in_order : List ℕ → List (List (FirstPrint P))

@@ -28,6 +28,7 @@ member index rule state people = record {
     first_chooses_too = false;
     same_entry_is_no_rival = false;
     suffixes_by_number = false;
+    repeats = false;
     met_disambiguate = false;
     names = None;
     state = state;

@@ -24,6 +24,7 @@ printed_as_view c state printed = record {
   first_chooses_too = c.first_chooses_too;
   same_entry_is_no_rival = c.same_entry_is_no_rival;
   suffixes_by_number = c.suffixes_by_number;
+  repeats = c.repeats;
   met_disambiguate = c.met_disambiguate;
   names = c.names;
   state = state;

@@ -3,14 +3,15 @@
 ghost use Rattle.std.specs.Prelude.{◌≡◌, [], ◌∷◌, ◌++◌, if◌then◌else◌, IfOk, OnOk};
 ghost use Rattle.rendering_context.specs.Views.{state_view};
 ghost use Rattle.rendering_context.specs.Cites as cites;
-ghost use Rattle.rendering_context.specs.Cites.{allows_suffix, may_change};
+ghost use Rattle.rendering_context.specs.Cites.{may_change};
 ghost use Rattle.rendering_style.specs.Views.{citation_layout_view};
 ghost use Rattle.rendering_tree.specs.Trees.{Children, nothing};
 ghost use Rattle.rendering_tree.specs.Views as trees;
 ghost use Rattle.rendering_tree.specs.Views.{tree_view};
 ghost use Rattle.rendering_tree.specs.Writing.{plain_text};
 ghost use Rattle.laws.specs.Text.{characters};
-ghost use Rattle.driver_names.specs.Prints.{printed_as, prints_date};
+ghost use Rattle.driver_names.specs.Prints as prints;
+ghost use Rattle.driver_names.specs.Prints.{may_be_alike, only_repeats, printed_as, prints_date};
 ghost use Rattle.driver_names.specs.Views.{class_view, printed_again, printed_as_view, printed_view};
 
 use rendering_context::DisambiguateState;
@@ -40,6 +41,8 @@ pub struct Candidate {
     pub same_entry_is_no_rival: bool,
     /// Whether year suffixes are given in the order of the numbers of entries.
     pub suffixes_by_number: bool,
+    /// Whether it repeats the cite before it, in a style that lets such cites be alike to none.
+    pub repeats: bool,
     /// Whether the test `disambiguate` was evaluated when it was printed undisambiguated.
     pub met_disambiguate: bool,
     /// How much of its first names is printed undisambiguated.
@@ -47,16 +50,18 @@ pub struct Candidate {
 }
 
 impl Candidate {
-    /// A cite of the entry at an index, which has a number, by what it printed undisambiguated.
+    /// A cite of the entry at an index, which has a number, by whether it repeats the cite before it, and what it printed
+    /// undisambiguated.
     pub fn new(
         entry: usize,
         number: usize,
         has_date: bool,
         style: &Citation,
+        repeats: bool,
         met_disambiguate: bool,
         names: Option<NameDisambiguationProperties>,
     ) -> Candidate
-        ensures { (printed : cites.DisambiguateState → Children) (state : cites.DisambiguateState) (t : Children) → printed_as_view result state t ≡ printed_as (record { entry = entry; number = number; has_date = has_date; style = citation_layout_view style.now; printed = printed; met_disambiguate = met_disambiguate; names = names }) state t }
+        ensures { (printed : cites.DisambiguateState → Children) (state : cites.DisambiguateState) (t : Children) → printed_as_view result state t ≡ printed_as (record { entry = entry; number = number; has_date = has_date; style = citation_layout_view style.now; repeats = repeats; printed = printed; met_disambiguate = met_disambiguate; names = names }) state t }
     {
         let rule = if style.add_givenname {
             Some(style.givenname_rule)
@@ -72,6 +77,7 @@ impl Candidate {
             first_chooses_too: style.first_chooses_too,
             same_entry_is_no_rival: style.same_entry_is_no_rival,
             suffixes_by_number: style.suffixes_by_number,
+            repeats,
             met_disambiguate,
             names,
         }
@@ -157,11 +163,19 @@ impl Printed {
         mem::replace(&mut self.tree, ElemChildren::new(alloc))
     }
 
-    /// Whether a year suffix may still be given to it.
-    pub fn allows_suffix(&self) -> bool
-        ensures { result ≡ allows_suffix (printed_view self.now).state }
+    /// Whether it may be alike to cites of other entries: a year suffix may still be given to it, and it does not only repeat the cite
+    /// before it.
+    pub fn may_be_alike(&self) -> bool
+        ensures { result ≡ may_be_alike (printed_view self.now) }
     {
-        self.state.allows_suffix()
+        self.state.allows_suffix() && !self.only_repeats()
+    }
+
+    /// Whether it repeats the cite before it, and prints neither people nor a date.
+    fn only_repeats(&self) -> bool
+        ensures { result ≡ only_repeats (printed_view self.now) }
+    {
+        self.cite.repeats && !has_names_or_date(&self.tree)
     }
 
     /// Whether names and branches may still change it.
@@ -178,6 +192,13 @@ impl Printed {
         self.tree.find_meta(&ElemMeta::Date).is_some()
             || self.cite.has_date && self.tree.find_meta(&ElemMeta::CitationLabel).is_some()
     }
+}
+
+/// Whether a tree has people or a date.
+fn has_names_or_date(tree: &ElemChildren) -> bool
+    ensures { result ≡ prints.has_names_or_date (tree_view tree.now) }
+{
+    tree.find_names().is_some() || tree.find_meta(&ElemMeta::Date).is_some()
 }
 
 pub fn plain_text(alloc: Global, tree: &ElemChildren) -> Result<String, AllocError>

@@ -8,7 +8,7 @@ use Rattle.std.proofs.lemmas.Cmp.{nat_eq_equiv}
 use Rattle.std.proofs.lemmas.List.Elements.{filter_agree}
 use Rattle.rendering_context.specs.Cites.{allows_suffix}
 use Rattle.rendering_style.specs.Styles.{Citation}
-use Rattle.driver_names.specs.Prints.{Printed, prints_date}
+use Rattle.driver_names.specs.Prints.{Printed, only_repeats, prints_date}
 use Rattle.driver_disambiguation.specs.Classes.{is_alike, is_mixed, parts}
 use Rattle.driver_disambiguation.specs.Gathered.{given_to_classes}
 use Rattle.driver_disambiguation.proofs.Classing.{more_than_one}
@@ -67,7 +67,7 @@ mixed_are_two (s ∷ ss) =
 
 pub classes_law : ClassesAreParts
 classes_law = λ ss cs.
-    let xs = filter (λ (s : Printed). allows_suffix s.state) ss in
+    let xs = filter (λ (s : Printed). allows_suffix s.state && not (only_repeats s)) ss in
     let agree = filter_agree is_mixed are_of_two_entries mixed_are_two (parts is_alike xs) in (
       λ is. (parts is_alike xs, (parts_of_two Printed is_alike xs (parts is_alike xs) alike_texts).0 refl, is ∙ agree),
       λ are. are.2 ∙ ap (filter are_of_two_entries) ((parts_of_two Printed is_alike xs are.0 alike_texts).1 are.1) ∙ sym agree,

@@ -25,7 +25,7 @@ pub fn classes_are_parts()
     ensures { ClassesAreParts }
 {}
 
-/// The blocks of a citation are the parts of its cites that go together: by the same names, or by names that print the same.
+/// The blocks of a citation are the parts of its cites that go together: by the same names, or by names that print the same people alike.
 pub fn blocks_are_parts<P>()
     ensures { BlocksAreParts P }
 {}

@@ -1,6 +1,7 @@
 -- Lists that are made of others, member by member.
-use Rattle.std.proofs.Common.{◌≡◌, ℕ, ◌+◌, ◌<◌, ◌≤◌, List, [], ◌∷◌, ◌++◌, append_assoc, append-nil, length, map, drop, get_or, sym, ap, ◌∙◌, arith}
+use Rattle.std.proofs.Common.{◌≡◌, ℕ, ◌+◌, ◌<◌, ◌≤◌, List, [], ◌∷◌, ◌++◌, append_assoc, append-nil, length, map, drop, get_or, refl, sym, ap, ◌∙◌, arith}
 use Rattle.std.proofs.lemmas.List.{drop_all, drop_more, get_or-map, length-map, map-append}
+use Rattle.driver_rounds.specs.FirstPrints.{flattened}
 
 -- one more is made of the first that is left
 pub made_goes_on : {A B C : Type 0} (f : A → B) (g : C → B) (items new : List A) (x : C) (y : A) (rest whole : List C) (all : List B) → whole ≡ x ∷ rest
@@ -55,3 +56,8 @@ copied_goes_on f es items new n e y all less at h says made =
 -- all are copied
 pub copied_ends : {A B : Type 0} (f : A → B) (es : List B) (items : List A) (n : ℕ) (all : List B) → length es ≤ n → map f items ++ drop n es ≡ all → map f items ≡ all
 copied_ends f es items n all over h = sym (append-nil (map f items)) ∙ ap (λ xs. map f items ++ xs) (sym (drop_all n es over)) ∙ h
+
+-- what is made of each member of lists, one after the other
+pub flat_maps : {A B : Type 0} (f : A → B) (xss : List (List A)) → flattened (map (map f) xss) ≡ map f (flattened xss)
+flat_maps f [] = refl
+flat_maps f (xs ∷ xss) = ap (λ ys. map f xs ++ ys) (flat_maps f xss) ∙ sym (map-append f xs (flattened xss))

@@ -14,13 +14,13 @@ use Rattle.driver_requests.specs.Views.{context_of, request_view}
 use Rattle.driver_requests.specs.declared.item.CitationItem.{CitationItem}
 use Rattle.driver_requests.specs.declared.request.CitationRequest.{CitationRequest}
 use Rattle.driver_disambiguation.specs.States.{States, state_of}
-use Rattle.driver_rounds.specs.FirstPrints.{first_rule, with_first_names}
+use Rattle.driver_rounds.specs.FirstPrints.{FirstNaming, first_naming, flattened, no_naming, with_first_names}
 use Rattle.driver_rounds.specs.Naming.{seen, seen_under, states_by}
 use Rattle.driver_rounds.specs.Rounding.{AreWithin}
 use Rattle.driver_rounds.specs.Views.{all_numbered_cites_view, numbered_cites_view, numbered_view}
 use Rattle.driver_rounds.specs.declared.cite.NumberedCite.{NumberedCite}
+use Rattle.driver_rounds.proofs.ListsGrown.{flat_maps}
 use Rattle.rendering_people.specs.Properties.{Properties}
-use Rattle.rendering_taxonomy.specs.declared.style.DisambiguationRule.{DisambiguationRule}
 
 module _ {T P : Type 0} (answers : T → Answers) where
   -- a cite that is seen by states has the first names of its entry
@@ -52,6 +52,15 @@ module _ {T P : Type 0} (answers : T → Answers) where
       let rest : map (λ (b : Vec NumberedCite B). map seen b.items) ws ≡ map (λ (a : Vec NumberedCite A). map (seen_under ss) a.items) vs = cc in
       ap₂ (λ c cs. c ∷ cs) (cites_named (context_of r) ss r.items.items v.items w.items one) (runs_named ss rs vs ws rest)
 
+-- all cites that are seen by states, one after the other, have the first names of their entries
+pub cites_named_again : {T P A B : Type 0} (answers : T → Answers) (ss : Option States) (rs : List (CitationRequest T P)) (vs : List (Vec NumberedCite A)) (ws us : List (Vec NumberedCite B)) → us ≡ ws
+    → map (λ (w : Vec NumberedCite B). map seen w.items) ws ≡ map (λ (v : Vec NumberedCite A). map (seen_under ss) v.items) vs
+    → flattened (all_numbered_cites_view answers rs us) ≡ map (with_first_names ss) (flattened (all_numbered_cites_view answers rs vs))
+cites_named_again {B = B} answers ss rs vs ws us same named =
+    ap (λ (xs : List (Vec NumberedCite B)). flattened (all_numbered_cites_view answers rs xs)) same
+    ∙ ap flattened (runs_named answers ss rs vs ws named)
+    ∙ flat_maps (with_first_names ss) (all_numbered_cites_view answers rs vs)
+
 -- a style that asks for no first names: cites are as they are numbered
 pub unnamed_cite : {P : Type 0} (n : Numbered P) → with_first_names None n ≡ n
 unnamed_cite n = refl
@@ -77,16 +86,16 @@ names_past [] n past = refl
 names_past (s ∷ ss) zero past = absurd (omega (arith, past))
 names_past (s ∷ ss) (suc n) past = names_past ss n (omega (arith, past))
 
--- the rule of the first request
-pub rule_some : {T P : Type 0} (answers : T → Answers) (rs : List (CitationRequest T P)) (r : CitationRequest T P) (o : Option DisambiguationRule) → slice_get rs 0 ≡ Some r
-    → ((qs : List (CitationRequest T P)) → o ≡ first_rule (map (request_view {P = P} (λ e. 0) answers) (r ∷ qs))) → o ≡ first_rule (map (request_view {P = P} (λ e. 0) answers) rs)
-rule_some answers [] r o h says = absurd (true≢false (ap is_some (sym h)))
-rule_some {P = P} answers (q ∷ rs) r o h says = says rs ∙ ap (λ x. first_rule (map (request_view {P = P} (λ e. 0) answers) (unwrap_or x q ∷ rs))) (sym h)
+-- how the style of the first request prints names first
+pub naming_some : {T P : Type 0} (answers : T → Answers) (rs : List (CitationRequest T P)) (r : CitationRequest T P) (o : FirstNaming) → slice_get rs 0 ≡ Some r
+    → ((qs : List (CitationRequest T P)) → o ≡ first_naming (map (request_view {P = P} (λ e. 0) answers) (r ∷ qs))) → o ≡ first_naming (map (request_view {P = P} (λ e. 0) answers) rs)
+naming_some answers [] r o h says = absurd (true≢false (ap is_some (sym h)))
+naming_some {P = P} answers (q ∷ rs) r o h says = says rs ∙ ap (λ x. first_naming (map (request_view {P = P} (λ e. 0) answers) (unwrap_or x q ∷ rs))) (sym h)
 
 -- without requests there is none
-pub rule_none : {T P : Type 0} (answers : T → Answers) (rs : List (CitationRequest T P)) → slice_get rs 0 ≡ None → None ≡ first_rule (map (request_view {P = P} (λ e. 0) answers) rs)
-rule_none answers [] h = refl
-rule_none answers (q ∷ rs) h = absurd (true≢false (ap is_some h))
+pub naming_none : {T P : Type 0} (answers : T → Answers) (rs : List (CitationRequest T P)) → slice_get rs 0 ≡ None → no_naming ≡ first_naming (map (request_view {P = P} (λ e. 0) answers) rs)
+naming_none answers [] h = refl
+naming_none answers (q ∷ rs) h = absurd (true≢false (ap is_some h))
 
 lengths_of : {A X : Type 0} (f : NumberedCite → X) (vs : List (Vec NumberedCite A)) → map (λ (v : Vec NumberedCite A). length v.items) vs ≡ map length (map (λ (v : Vec NumberedCite A). map f v.items) vs)
 lengths_of f [] = refl

@@ -1,22 +1,26 @@
 //! First prints of cites, undisambiguated.
 
 ghost use Rattle.std.specs.Prelude.{◌≡◌, ◌+◌, ◌≤◌, ◌++◌, ◌∷◌, [], length, map, IfOk, OnOk};
+ghost use Rattle.std.specs.Option.{option_map};
 ghost use Rattle.laws.specs.Counts.{next_count};
+ghost use Rattle.rendering_context.specs.Views.{lent_names};
+ghost use Rattle.rendering_people.specs.Properties.{raised_to};
 ghost use Rattle.rendering.specs.Views.{style_context_view};
 ghost use Rattle.rendering_style.specs.Views.{citation_layout_view};
 ghost use Rattle.driver_names.specs.Views.{printed_view};
 ghost use Rattle.driver_rounds.specs.CitesInStep.{AreInStep, IsInStep, all_cites, cites_count, request_cites, styled_view};
-ghost use Rattle.driver_rounds.specs.FirstPrints.{printed_undisambiguated};
+ghost use Rattle.driver_rounds.specs.FirstPrints.{printed_undisambiguated, repeats_by};
 ghost use Rattle.driver_rounds.specs.Views.{usage_of};
 
 use crate::cite::{StyledCite, has_suffix_date, printed_by};
 use crate::document_cites::{DocumentCites, RequestCites};
 use driver_disambiguation::{Candidate, Printed};
 use rendering::Effort;
-use rendering_context::DisambiguateState;
+use rendering_context::{DisambiguateState, is_ibid};
 use rendering_entries::EntryLike;
+use rendering_people::NameDisambiguationProperties;
 use rendering_style::Citation;
-use rendering_taxonomy::IdentifierUsage;
+use rendering_taxonomy::{IbidState, IdentifierUsage};
 use std::alloc::{AllocError, Global};
 
 /// What cites print undisambiguated, and which identifiers.
@@ -116,14 +120,54 @@ fn print_first<T: EntryLike, P>(
 {
     let first = printed_by(cite, DisambiguateState::None, effort)?;
     let usage = first.identifier_usage;
+    let names = names_with_first(alloc, first.names, cite.numbered.first_names)?;
     let candidate = Candidate::new(
         cite.numbered.entry,
         cite.numbered.number,
         has_suffix_date(cite.item.entry),
         style,
+        repeats(style, cite.numbered.ibid),
         first.met_disambiguate,
-        first.names,
+        names,
     );
     let printed = Printed::new(alloc, candidate, DisambiguateState::None, first.tree)?;
     Ok((printed, usage))
+}
+
+/// What a cite printed of names, with its first names, where there are some.
+fn names_with_first(
+    alloc: Global,
+    names: Option<NameDisambiguationProperties>,
+    first: Option<&NameDisambiguationProperties>,
+) -> Result<Option<NameDisambiguationProperties>, AllocError>
+    ensures { IfOk result (λ n. n ≡ option_map (raised_to (lent_names first.entry)) names) }
+{
+    match first {
+        Some(first) => {
+            let raised = raised_names(alloc, names, first)?;
+            Ok(raised)
+        }
+        None => Ok(names),
+    }
+}
+
+/// What a cite printed of names, raised to others.
+fn raised_names(
+    alloc: Global,
+    names: Option<NameDisambiguationProperties>,
+    others: &NameDisambiguationProperties,
+) -> Result<Option<NameDisambiguationProperties>, AllocError>
+    ensures { IfOk result (λ n. n ≡ option_map (raised_to others.now) names) }
+{
+    match names {
+        Some(names) => Ok(Some(names.raised_to(alloc, others)?)),
+        None => Ok(None),
+    }
+}
+
+/// Whether a cite repeats the one before it, in a style that lets such cites be alike to none.
+fn repeats(style: &Citation, ibid: IbidState) -> bool
+    ensures { result ≡ repeats_by (citation_layout_view style.now) ibid }
+{
+    is_ibid(ibid) && style.ibid_after_one
 }

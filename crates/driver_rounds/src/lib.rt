@@ -12,7 +12,7 @@ mod rounds;
 
 pub use cite::NumberedCite;
 pub use document_cites::{DocumentCites, RequestCites};
-pub use first_names::{first_states, named_runs};
+pub use first_names::{first_states, lent, named_runs};
 pub use first_printing::{FirstPrints, first_prints};
 pub use order_and_numbers::{OrderAndNumbers, known_of};
 pub use rounds::{RoundStates, disambiguated};

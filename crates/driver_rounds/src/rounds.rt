@@ -19,7 +19,7 @@ ghost use Rattle.driver_rounds.specs.Views.{printed_by_states};
 
 use crate::cite::{StyledCite, printed_by};
 use crate::document_cites::{DocumentCites, RequestCites};
-use driver_disambiguation::{GivenState, Printed, PrintedCites, update_states};
+use driver_disambiguation::{GivenState, Printed, PrintedCites, append_given, update_states};
 use driver_requests::{CitationRequest, DriverError};
 use rendering::Effort;
 use rendering_context::DisambiguateState;
@@ -126,18 +126,7 @@ fn give_round<T: EntryLike, P>(
         &mut entry_states.printed,
         effort,
     )?;
-    append(given, &mut entry_states.given)?;
-    Ok(())
-}
-
-/// Appends what a round gave.
-fn append(more: Vec<GivenState>, given: &mut Vec<GivenState>) -> Result<(), AllocError>
-    ensures { OnOk result (given_states_view given.new.items
-        ≡ given_states_view given.old.items ++ given_states_view more.items) }
-{
-    for one in more {
-        given.push(one)?;
-    }
+    append_given(given, &mut entry_states.given)?;
     Ok(())
 }
 

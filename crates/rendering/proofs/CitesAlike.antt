@@ -21,7 +21,7 @@ use Rattle.rendering_nodes.specs.Named.{Named, AreAlike, joined_named, variable_
 use Rattle.rendering_nodes.specs.Laws.{with_answers}
 use Rattle.rendering_nodes.proofs.AnswersAlike.{AlikeAt, AlikeIn, alike_in, first_alike, others_alike, has_same}
 use Rattle.rendering_nodes.proofs.EntriesAlike.{labels_alike, surveys_same, contents_same}
-use Rattle.rendering.specs.Purposes.{layout_nodes, context_of, setting_of, append_layout, layout_survey, append_citation, citation_survey, citation_normal, year_dates, first_dated, append_year, author_variable, elsewhere, author_node, append_made, author_last, author_elsewhere, append_author, is_published, author_form, rest_form, prints_identifiers, space_before, append_enclosed, spaced_frame, prose_frame, append_framed, append_between, append_prose, form_of, begun_in, rendered_aligned, rendered, full_of, rendered_for, layout_frame, append_item, item_of}
+use Rattle.rendering.specs.Purposes.{layout_nodes, context_of, setting_of, append_layout, layout_survey, append_citation, citation_survey, append_own, year_dates, first_dated, append_year, author_variable, elsewhere, author_node, append_made, author_last, author_elsewhere, append_author, is_published, author_form, rest_form, prints_identifiers, space_before, append_enclosed, spaced_frame, prose_frame, append_framed, append_between, append_prose, form_of, begun_in, rendered_aligned, rendered, full_of, rendered_for, layout_frame, item_of}
 use Rattle.rendering.specs.Alike.{named_in_bibliography, layouts_named, style_named, AlikeCitesAreOne, AlikeItemsAreOne}
 use Rattle.rendering_taxonomy.specs.declared.cite.CitePurpose.{CitePurpose}
 use Rattle.rendering_taxonomy.specs.declared.cite.CitePurpose.TheVariants as purposes
@@ -163,7 +163,7 @@ author_same a b c s st h =
 enclosed_same : (a b : Answers) (c : Context) (s : Style) (form : SpecialForm) (prefix suffix : List ℕ) (st : State) → StyleAlike c.is_published s a b
     → append_enclosed s (with_answers a c) form prefix suffix st ≡ append_enclosed s (with_answers b c) form prefix suffix st
 enclosed_same a b c s form prefix suffix st h =
-    ap (citation_normal s c suffix) (citation_same a b c s form (citation_normal s c prefix (space_before prefix st)) h)
+    ap (append_own s c.quotes suffix) (citation_same a b c s form (append_own s c.quotes prefix (space_before prefix st)) h)
 
 framed_same : (a b : Answers) (c : Context) (s : Style) (form : SpecialForm) (prefix suffix : List ℕ) (st : State) → StyleAlike c.is_published s a b
     → append_framed s (with_answers a c) form prefix suffix st ≡ append_framed s (with_answers b c) form prefix suffix st

@@ -1,4 +1,5 @@
 pub mod Words
+pub mod StyleContexts
 pub mod Purposes
 pub mod Alike
 pub mod Views

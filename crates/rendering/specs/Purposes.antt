@@ -1,5 +1,5 @@
 -- What cites and items of a bibliography print.
-use Rattle.std.specs.Prelude.{ℕ, ◌+◌, Bool, true, false, not, ◌&&◌, ◌||◌, List, [], ◌∷◌, ◌++◌, filter_map, if◌then◌else◌, Option, Some, None, codes}
+use Rattle.std.specs.Prelude.{ℕ, Bool, true, false, not, ◌&&◌, ◌||◌, List, [], ◌∷◌, ◌++◌, filter_map, if◌then◌else◌, Option, Some, None, codes}
 use Rattle.std.specs.List.{list_any}
 use Rattle.std.specs.Option.{option_map, option_map_or, unwrap_or}
 use Rattle.std.specs.Char.{is_whitespace}
@@ -12,7 +12,7 @@ use Rattle.rendering_locale.specs.Lookup.{term}
 use Rattle.literature_values.specs.declared.date.Date.{Date}
 use Rattle.rendering_dates.specs.Dates.{years_text}
 use Rattle.rendering_page.specs.Joints.{joined}
-use Rattle.rendering_page.specs.Pages.{Page, is_joined, Manner, Quotes, Frame, append_space, empty_page_by, prints}
+use Rattle.rendering_page.specs.Pages.{Page, is_joined, Manner, Quotes, Frame, append_normal, append_space, empty_page_by, prints}
 use Rattle.rendering_page.specs.Pieces.{normal, begin, end}
 use Rattle.rendering_page.specs.PageCharacters.{plain_manner}
 use Rattle.rendering_entries.specs.Answers.{Answers}
@@ -99,6 +99,7 @@ setting_of s english l options form = record {
   options = not_overriding (options_over options s.name_options);
   in_substitute = false;
   form = form;
+  outer_names = None;
 }
 
 -- a layout is appended in a form, without its affixes
@@ -126,8 +127,8 @@ abbrev pub bibliography_survey : Style → Context → SpecialForm → State →
 bibliography_survey s c form st b = layout_survey s c b.layout b.name_options form st
 
 -- a text of the citation's own, which looks as its layout does
-abbrev pub citation_normal : Style → Context → List ℕ → State → State
-citation_normal s c cs st = append c (normal (layout_manner s.citation.layout) cs ∷ []) st
+abbrev pub append_own : Style → Quotes → List ℕ → State → State
+append_own s quotes cs st = record st { page = append_normal quotes (layout_manner s.citation.layout) cs st.page }
 
 -- the dates that are asked for a year
 abbrev pub year_dates : List DateVariable
@@ -217,7 +218,7 @@ space_before cs st = if begins_spaced cs then st else record st { page = append_
 
 -- a form of the citation between two texts, after a space
 abbrev pub append_enclosed : Style → Context → SpecialForm → List ℕ → List ℕ → State → State
-append_enclosed s c form prefix suffix st = citation_normal s c suffix (append_citation s c form (citation_normal s c prefix (space_before prefix st)))
+append_enclosed s c form prefix suffix st = append_own s c.quotes suffix (append_citation s c form (append_own s c.quotes prefix (space_before prefix st)))
 
 -- an element that is removed if nothing is printed in it
 abbrev pub in_element : Context → Frame → (State → State) → State → State

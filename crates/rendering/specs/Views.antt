@@ -1,23 +1,20 @@
 -- The code's values without where they lie in memory.
-use Rattle.std.specs.Prelude.{map}
-use Rattle.std.specs.Option.{option_map}
 use Rattle.rendering_context.specs.Contexts as contexts
 use Rattle.rendering_context.specs.Contexts.{Context}
 use Rattle.rendering_context.specs.Views.{context_view}
 use Rattle.rendering_entries.specs.Answers.{Answers}
-use Rattle.rendering_locale.specs.CodeViews.{borrowed_code_view}
-use Rattle.rendering_locale.specs.Views.{locale_view}
 use Rattle.rendering_style.specs.Styles.{Style}
 use Rattle.rendering_style.specs.StyleViews.{style_view}
 use Rattle.rendering_tree.specs.Views.{tree_view}
 use Rattle.rendering.specs.Purposes as purposes
+use Rattle.rendering.specs.StyleContexts.{style_context_of}
 use Rattle.rendering.specs.declared.call.Call.{Call}
 use Rattle.rendering.specs.declared.rendered.Rendering.{Rendering}
 use Rattle.rendering.specs.declared.style_context.StyleContext.{StyleContext}
 
 -- a style with the language that is asked for, and the files with locales
 abbrev pub style_context_view : StyleContext → contexts.StyleContext
-style_context_view x = record { style = style_view x.style.now; locale = option_map borrowed_code_view x.locale; locale_files = map locale_view x.locale_files.now }
+style_context_view x = style_context_of x.style.now x.locale x.locale_files.now
 
 -- the style of a call
 abbrev pub style_of : Call → Style

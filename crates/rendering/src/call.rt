@@ -7,13 +7,12 @@ ghost use Rattle.rendering_leaves.specs.NodeSettings.{noted};
 ghost use Rattle.rendering_leaves.specs.Views.{form_view};
 ghost use Rattle.rendering_names.specs.Views.{resolved_options_view};
 ghost use Rattle.rendering_nodes.specs.Content.{contents};
-ghost use Rattle.rendering_page.specs.Pages.{append_normal};
 ghost use Rattle.rendering_page.specs.Views.{quotes_view};
 ghost use Rattle.rendering_style.specs.Opening.{opened_nodes};
 ghost use Rattle.rendering_style.specs.Options.{NameOptions, open_options, options_over};
 ghost use Rattle.rendering_style.specs.StyleViews.{style_view};
 ghost use Rattle.rendering_style.specs.Views.{bibliography_layout_view, layout_view, node_view};
-ghost use Rattle.rendering.specs.Purposes.{append_bibliography, citation_options, append_citation, citation_survey, layout_manner, append_layout, layout_survey, append_made, setting_of};
+ghost use Rattle.rendering.specs.Purposes.{append_bibliography, citation_options, append_citation, citation_survey, append_layout, layout_survey, append_made, append_own, setting_of};
 
 use crate::author_node::AuthorNode;
 use crate::layout::{layout_manner, layout_options, setting_of};
@@ -85,7 +84,8 @@ impl<'s, 'a> Call<'s, 'a> {
 
     /// Appends a text of the citation's own, which looks as its layout does.
     pub(crate) fn push_own(&self, text: &'a str, state: &mut State<'a>) -> Result<(), AllocError>
-        ensures { OnOk result (state.new ≡ record state.old { page = append_normal (quotes_view self.now.walk.context.quotes.now) (layout_manner (style_of self.now).citation.layout) (spelled text.entry) state.old.page }) }
+        ensures { OnOk result (state.new ≡ append_own (style_of self.now)
+            (quotes_view self.now.walk.context.quotes.now) (spelled text.entry) state.old) }
     {
         let manner = layout_manner(&self.walk.style.parts().citation.layout);
         state.page.push_text(self.walk.context.quotes, manner, text)

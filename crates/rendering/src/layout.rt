@@ -73,6 +73,7 @@ pub(crate) fn setting_of<'a>(
         options: NamesAround::not_overriding(options),
         in_substitute: false,
         form,
+        outer_names: None,
     }
 }
 

@@ -1,15 +1,15 @@
 //! Styles with the locales that they are used with.
 
-ghost use Rattle.std.specs.Prelude.{◌≡◌, false, true, map, IfOk, None};
+ghost use Rattle.std.specs.Prelude.{◌≡◌, false, true, IfOk, None};
 ghost use Rattle.std.specs.Option.{option_map};
 ghost use Rattle.laws.specs.Text.{characters};
 ghost use Rattle.rendering_locale.specs.CodeViews.{borrowed_code_view};
-ghost use Rattle.rendering_locale.specs.Views.{locale_view};
 ghost use Rattle.rendering_names.specs.Views.{resolved_options_view};
 ghost use Rattle.rendering_page.specs.Pages.{is_joined};
 ghost use Rattle.rendering_style.specs.StyleViews.{style_view};
 ghost use Rattle.rendering.specs.Alike.{ForAlikeAnswers};
 ghost use Rattle.rendering.specs.Purposes.{citation_options, prints_suffix};
+ghost use Rattle.rendering.specs.StyleContexts.{style_context_of};
 ghost use Rattle.rendering_page.specs.Views.{quotes_view};
 ghost use Rattle.rendering.specs.Words.{joining_quotes, words_of, words_view};
 
@@ -41,7 +41,8 @@ pub struct StyleContext<'a> {
     options: ResolvedNameOptions<'a>,
     /// The words of a call that asks for no language.
     own_words: Words<'a>,
-    ghost language: { words_view own_words ≡ words_of (record { style = style_view style.now; locale = option_map borrowed_code_view locale; locale_files = map locale_view locale_files.now }) None },
+    ghost language: { words_view own_words
+        ≡ words_of (style_context_of style.now locale locale_files.now) None },
     ghost resolved: { resolved_options_view options ≡ citation_options (style_view style.now) },
     ghost suffix: { has_suffix_node ≡ prints_suffix (style_view style.now) },
 }
@@ -81,7 +82,8 @@ impl<'a> StyleContext<'a> {
         locale: Option<&'a LocaleCode>,
         locale_files: &'a [Locale],
     ) -> Result<StyleContext<'a>, AllocError>
-        ensures { IfOk result (λ x. style_context_view x ≡ record { style = style_view style.now; locale = option_map borrowed_code_view locale.entry; locale_files = map locale_view locale_files.now }) }
+        ensures { IfOk result (λ x. style_context_view x
+            ≡ style_context_of style.now locale.entry locale_files.now) }
     {
         let authors = AuthorNode::new(alloc)?;
         let own_words = words_in(alloc, style, locale, locale_files)?;
@@ -372,7 +374,8 @@ fn words_in<'a>(
     locale: Option<&LocaleCode>,
     locale_files: &'a [Locale],
 ) -> Result<Words<'a>, AllocError>
-    ensures { IfOk result (λ w. words_view w ≡ words_of (record { style = style_view style.now; locale = option_map borrowed_code_view locale.entry; locale_files = map locale_view locale_files.now }) None) }
+    ensures { IfOk result (λ w. words_view w
+        ≡ words_of (style_context_of style.now locale.entry locale_files.now) None) }
 {
     let parts = style.parts();
     let code = language(locale, parts.default_locale.as_ref());

@@ -100,7 +100,7 @@ impl CiteProperties<'_> {
 }
 
 /// Whether the cite before is of the same entry.
-fn is_ibid(ibid: IbidState) -> bool
+pub fn is_ibid(ibid: IbidState) -> bool
     ensures { result ≡ choosing.is_ibid ibid }
 {
     match ibid {

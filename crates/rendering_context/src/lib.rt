@@ -12,7 +12,8 @@ mod stretch;
 mod variables;
 
 pub use answer::Answer;
-pub use choosing::asks_disambiguate;
+pub use choosing::{asks_disambiguate, is_ibid};
 pub use cite::{CiteProperties, DisambiguateState};
 pub use context::Context;
-pub use locator::{LocatorPayload, SpecificLocator, TransparentLocator};
+pub use locator::{LocatorPayload, SpecificLocator, TransparentLocator, is_range_sign};
+pub use stretch::is_numeric_text;

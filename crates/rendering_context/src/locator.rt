@@ -148,7 +148,7 @@ pub(crate) fn has_range_sign(text: &str) -> bool
 }
 
 /// Whether it is a comma, an ampersand, a hyphen or an en dash.
-pub(crate) fn is_range_sign(c: char) -> bool
+pub fn is_range_sign(c: char) -> bool
     ensures { result ≡ answering.is_range_sign c }
 {
     c == ',' || c == '&' || c == '-' || c == '\u{2013}'

@@ -88,7 +88,7 @@ impl Stretch {
 }
 
 /// Whether the text counts as numbers.
-pub(crate) fn is_numeric_text(text: &str) -> bool
+pub fn is_numeric_text(text: &str) -> bool
     ensures { result ≡ stretches.is_numeric_text (chars text.now) }
 {
     let mut stretch = Stretch::Empty;

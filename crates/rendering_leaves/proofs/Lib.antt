@@ -4,3 +4,4 @@ pub mod StatesAppended
 pub mod SuffixesCased
 pub mod LeavesAppended
 pub mod QuotesInside
+pub mod WordsPrinted

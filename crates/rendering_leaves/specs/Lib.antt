@@ -3,3 +3,4 @@ pub mod Quoted
 pub mod Values
 pub mod Views
 pub mod Parts
+pub mod Words

@@ -4,6 +4,7 @@ use Rattle.rendering_people.specs.Properties.{Properties}
 use Rattle.rendering_page.specs.Pages.{Page, Manner, empty_page}
 use Rattle.rendering_page.specs.Pieces.{Piece, append_pieces}
 use Rattle.rendering_names.specs.Around.{NamesAround}
+use Rattle.rendering_style.specs.Nodes.{NamesNode}
 use Rattle.rendering_taxonomy.specs.Variables.{is_among}
 use Rattle.rendering_context.specs.Contexts.{Context}
 use Rattle.rendering_taxonomy.specs.declared.variable.NameVariable.{NameVariable}
@@ -22,7 +23,8 @@ pub data SpecialForm : Type 0 where
   without_names : NameVariable → SpecialForm
 
 -- What is handed down: how texts are appended, whether quotes are inner ones, what stands between the children of the group around, the
--- options for names of the layout and the style, or of a key, whether a substitute for names is printed, and what is printed of the layout.
+-- options for names of the layout and the style, or of a key, whether a substitute for names is printed, what is printed of the layout, and
+-- the names whose substitute the nodes stand in, be it in groups and branches, but not in macros that it calls.
 pub record NodeSetting : Type 0 where
   pub manner : Manner
   pub inside_quotes : Bool
@@ -30,6 +32,7 @@ pub record NodeSetting : Type 0 where
   pub options : NamesAround
   pub in_substitute : Bool
   pub form : SpecialForm
+  pub outer_names : Option NamesNode
 
 -- which identifiers were printed
 pub record Used : Type 0 where

@@ -10,7 +10,6 @@ use Rattle.rendering_locale.specs.Locales.{DatePart, Locale, LocalizedDate}
 use Rattle.rendering_locale.specs.Lookup.{term_text, quote_text, ordinals_of, date_found}
 use Rattle.literature_numbers.specs.Pages.{Part}
 use Rattle.literature_values.specs.TypedViews.{ValueOrText, Value, Text}
-use Rattle.rendering_numbers.specs.Numbers.{numeral_or_text}
 use Rattle.rendering_ranges.specs.Delimited.{delimited}
 use Rattle.rendering_ranges.specs.Lettered.{lettered}
 use Rattle.rendering_ranges.specs.Ranges.{pages_in}
@@ -26,6 +25,7 @@ use Rattle.rendering_context.specs.Contexts.{Context}
 use Rattle.rendering_leaves.specs.NodeSettings.{SpecialForm, suffix_only, NodeSetting, State, append, with_printed}
 use Rattle.rendering_leaves.specs.Quoted.{are_inner, requoted}
 pub use Rattle.rendering_leaves.specs.Quoted.{close_term, open_term}
+use Rattle.rendering_leaves.specs.Words.{number_in}
 use Rattle.rendering_context.specs.Answering.{Answer, no_answer, pieces, address, count, ranges, own, answer_to, text_answer_to, dashed_if, asked_for, date_answer, is_plural_variable}
 use Rattle.rendering_taxonomy.specs.declared.date.DatePartForm.{DatePartForm}
 use Rattle.rendering_taxonomy.specs.declared.date.DatePartForm.TheVariants as parts
@@ -99,7 +99,8 @@ abbrev pub answer_pieces : Context → Manner → NumberForm → Answer → List
 answer_pieces c m form no_answer = []
 answer_pieces c m form (pieces cs) = chunk_pieces m cs
 answer_pieces c m form (address cs url) = linked m.formatting cs url ∷ []
-answer_pieces c m form (count n) = normal m (numeral_or_text (ordinals_of c.locales) form n) ∷ []
+answer_pieces c m form (count n) =
+    normal m (number_in c.is_published (ordinals_of c.locales) form n) ∷ []
 answer_pieces c m form (ranges ps) = normal m (printed_pages c.locales c.page_ranges c.is_published ps) ∷ []
 answer_pieces c m form own = own_locator m.formatting c.properties.initial_idx ∷ []
 

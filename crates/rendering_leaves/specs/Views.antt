@@ -1,7 +1,7 @@
 -- The code's values without where they lie in memory.
 use Rattle.std.specs.Option.{option_map}
 use Rattle.laws.specs.Text.{spelled}
-use Rattle.rendering_names.specs.Views.{names_around_view}
+use Rattle.rendering_names.specs.Views.{names_around_view, names_parts_view}
 use Rattle.rendering_page.specs.Views.{manner_view}
 use Rattle.rendering_leaves.specs.NodeSettings as settings
 use Rattle.rendering_leaves.specs.declared.node_setting.SpecialForm.{SpecialForm}
@@ -27,4 +27,5 @@ setting_view s = record {
   options = names_around_view s.options;
   in_substitute = s.in_substitute;
   form = form_view s.form;
+  outer_names = option_map names_parts_view s.outer_names;
 }

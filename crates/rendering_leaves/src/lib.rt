@@ -17,6 +17,7 @@ mod state;
 mod suppressed;
 mod suppression;
 mod text;
+mod words;
 
 pub use date::push_date;
 pub use label::push_label;

@@ -1,6 +1,6 @@
 //! What is handed down from node to node.
 
-use rendering_names::NamesAround;
+use rendering_names::{NamesAround, NamesParts};
 use rendering_page::Manner;
 use rendering_taxonomy::NameVariable;
 
@@ -38,4 +38,6 @@ pub struct NodeSetting<'a> {
     pub in_substitute: bool,
     /// What is printed of the layout.
     pub form: SpecialForm,
+    /// The names whose substitute the nodes stand in, be it in groups and branches, but not in macros that it calls.
+    pub outer_names: Option<NamesParts<'a>>,
 }

@@ -11,6 +11,7 @@ ghost use Rattle.rendering_entries.specs.Answers.{Answers};
 ghost use Rattle.rendering_entries.specs.Library.{one_chunk};
 ghost use Rattle.rendering_entries.specs.Views.{lent_number_view, lent_text_view};
 ghost use Rattle.rendering_leaves.specs.Values.{answer_pieces, page_delimiter, printed_pages, ranges_in};
+ghost use Rattle.rendering_leaves.specs.Words.{number_in};
 ghost use Rattle.rendering_locale.specs.Lookup.{ordinals_of};
 ghost use Rattle.rendering_numbers.specs.Numbers.{numeral_or_text};
 ghost use Rattle.rendering_page.specs.Pages.{append_normal};
@@ -18,7 +19,7 @@ ghost use Rattle.rendering_page.specs.Pieces.{append_pieces, chunk_pieces};
 ghost use Rattle.rendering_page.specs.Views.{quotes_view, manner_view};
 ghost use Rattle.rendering_ranges.specs.Ranges.{pages_in};
 
-use crate::numeral::numeral_text;
+use crate::numeral::{in_form, numeral_text};
 use literature_values::{ChunkedString, MaybeTyped, Numeric, PageRanges};
 use rendering_cases::cased_text;
 use rendering_context::{Answer, Context};
@@ -28,7 +29,7 @@ use rendering_ranges::{delimited, lettered, push_ranges};
 use rendering_taxonomy::{NumberForm, OtherTerm, PageRangeFormat, Term, TermForm};
 use std::alloc::{AllocError, Global};
 use std::borrow::Cow;
-use texts::empty_text;
+use texts::{empty_text, owned};
 
 /// Appends an answer, with numbers in a form. Without an answer nothing is appended.
 pub(crate) fn append_answer<'a>(
@@ -50,7 +51,7 @@ pub(crate) fn append_answer<'a>(
         Answer::YearSuffix(year_suffix) => append_suffix(context, manner, year_suffix, page),
         Answer::Address { text, url } => page.push_made_link(manner.formatting, text, url),
         Answer::Number(number) => append_number(context, manner, form, number, page),
-        Answer::Locator(text) => page.push_text(context.quotes, manner, text),
+        Answer::Locator(text) => append_locator(context, manner, form, text, page),
         Answer::Pages(pages) => append_pages(context, manner, pages, page),
         Answer::Transparent => {
             page.push_transparent(manner.formatting, context.properties.initial_idx)
@@ -117,21 +118,68 @@ fn append_number<'a>(
     number: MaybeTyped<Cow<'a, Numeric>>,
     page: &mut Page<'a>,
 ) -> Result<(), AllocError>
-    ensures { OnOk result (page.new
-        ≡ append_normal (quotes_view context.now.quotes.now) (manner_view manner) (numeral_or_text
+    ensures { OnOk result (page.new ≡ append_normal (quotes_view context.now.quotes.now)
+        (manner_view manner) (number_in context.now.is_published
         (ordinals_of context.now.locales.now) form (lent_number_view number.entry)) page.old) }
+{
+    let text = number_in(context, form, number)?;
+    page.push_made(context.quotes, manner, text)
+}
+
+/// Appends the text of a locator, in a published style with its numbers in a form.
+fn append_locator<'a>(
+    context: &Context<'_, 'a>,
+    manner: Manner,
+    form: NumberForm,
+    text: &'a str,
+    page: &mut Page<'a>,
+) -> Result<(), AllocError>
+    ensures { OnOk result (page.new ≡ append_normal (quotes_view context.now.quotes.now)
+        (manner_view manner) (number_in context.now.is_published
+        (ordinals_of context.now.locales.now) form (Text (chars text.now))) page.old) }
+{
+    if !context.is_published {
+        return page.push_text(context.quotes, manner, text);
+    }
+    let text = owned(context.alloc, text)?;
+    append_number(context, manner, form, MaybeTyped::String(text), page)
+}
+
+/// A number in a form, or the text instead of it; in a published style a number beside letters stays as it is.
+fn number_in(
+    context: &Context<'_, '_>,
+    form: NumberForm,
+    number: MaybeTyped<Cow<'_, Numeric>>,
+) -> Result<String, AllocError>
+    ensures { IfOk result (λ s. characters s ≡ number_in context.now.is_published
+        (ordinals_of context.now.locales.now) form (lent_number_view number.entry)) }
+{
+    if !context.is_published {
+        return numeral_or_text(context, form, number);
+    }
+    let text = numeral_or_text(context, NumberForm::Numeric, number)?;
+    in_form(context.alloc, context.locales, form, text)
+}
+
+/// A number in a form with the letters beside it, or the text instead of it.
+fn numeral_or_text(
+    context: &Context<'_, '_>,
+    form: NumberForm,
+    number: MaybeTyped<Cow<'_, Numeric>>,
+) -> Result<String, AllocError>
+    ensures { IfOk result (λ s. characters s ≡ numeral_or_text
+        (ordinals_of context.now.locales.now) form (lent_number_view number.entry)) }
 {
     match number {
         MaybeTyped::Typed(numeral) => {
-            let text = numeral_text(
+            numeral_text(
                 context.alloc,
                 context.locales,
                 form,
                 borrowed_numeral(&numeral),
-            )?;
-            page.push_made(context.quotes, manner, text)
+            )
         }
-        MaybeTyped::String(text) => page.push_made(context.quotes, manner, text),
+        MaybeTyped::String(text) => Ok(text),
     }
 }
 

@@ -15,7 +15,7 @@ use Rattle.rendering_leaves.specs.Values.{text_manner, quote_before, quote_after
 use Rattle.rendering_people.specs.Properties.{Properties}
 use Rattle.rendering_taxonomy.specs.declared.variable.Variable.TheVariants as variables
 use Rattle.rendering_nodes.specs.Admission.{survey}
-use Rattle.rendering_nodes.specs.Content.{taken, disambiguated, remembered, with_people_printed, append_names, names_in, macro_frame, group_frame, stage, entered, left, inside_macro, inside_group, inside_names, delimited, delimited_frame, delimited_node, delimits_printed, bare, tried, accepted, people_of, names_or_substitute, content, contents, chosen, first_substitute}
+use Rattle.rendering_nodes.specs.Content.{substituted_names, taken, disambiguated, remembered, with_people_printed, append_names, names_in, macro_frame, group_frame, stage, entered, left, inside_macro, inside_group, inside_names, delimited, delimited_frame, delimited_node, delimits_printed, bare, tried, accepted, people_of, names_or_substitute, content, contents, chosen, first_substitute}
 use Rattle.rendering_nodes.specs.Laws.{ContentsAreNested}
 use Rattle.rendering_nodes.proofs.PiecesFraming.{nested_frames, level_as, level_on, level_to, level_ended, EndAll, ends_none, ends_normal}
 use Rattle.rendering_nodes.proofs.LeavesFraming.{ends_quote_before, ends_quote_after, ends_names, KeepsOpen, keeps_append, keeps_leaf, page_if, page_printed, page_standing}
@@ -91,8 +91,8 @@ mutual
       keeps_element c f before after st inside (ends_quote_before c m look.quotes s.inside_quotes) (ends_quote_after c m look.quotes s.inside_quotes)
       (keeps_contents c (inside_macro s look) true xs (entered c f before st))
   keeps_content c outer s (names h xs) st =
-      let own = names_in s.form (taken outer h) in
-      keeps_names c s own (first_substitute c own (inside_names s own) xs) (people_of c st h) st (keeps_substitute c own (inside_names s own) xs)
+      let own = names_in s.form (taken (substituted_names c.is_published outer s) h) in
+      keeps_names c s own (first_substitute c own (inside_names s own xs) xs) (people_of c st h) st (keeps_substitute c own (inside_names s own xs) xs)
   keeps_content c outer s (choose bs) st = keeps_chosen c s bs st
   keeps_content c outer s (group g xs) st =
       let f = group_frame s g in

@@ -1,5 +1,5 @@
 -- Where it is not asked if the first date was printed, a survey finds the same before and after that.
-use Rattle.std.proofs.Common.{◌≡◌, Bool, true, false, ◌&&◌, true≢false, refl, ap, ◌∙◌}
+use Rattle.std.proofs.Common.{◌≡◌, Bool, true, false, ◌&&◌, List, true≢false, refl, ap, ◌∙◌}
 use Rattle.std.specs.Prelude.{if◌then◌else◌}
 use Rattle.std.specs.Option.{option_map_or}
 use Rattle.rendering_context.specs.Answering.{date_answer}
@@ -8,10 +8,11 @@ use Rattle.rendering_context.specs.Contexts.{Context}
 use Rattle.rendering_leaves.specs.NodeSettings.{SpecialForm, whole, author_only, without_author, first_date_only, suffix_only, authors_alone, without_names, NodeSetting, State}
 use Rattle.rendering_style.specs.Nodes as nodes
 use Rattle.rendering_style.specs.Nodes.{of_variable, of_term, of_value, Leaf, Node, Nodes, Branches, leaf, call, opened, names, choose, group, no_nodes, node, otherwise, branch}
-use Rattle.rendering_nodes.specs.Admission.{Stage, Survey, allows_date, asks_for_date, both, branch_survey, containing, group_survey, has_people, is_shut_out, leaf_survey, names_survey, nothing, survey, surveys, variable_survey}
+use Rattle.rendering_nodes.specs.Admission.{Stage, Survey, allows_date, asks_for_date, both, branch_survey, containing, group_survey, has_people, holds_names_of, in_substitute_of, is_shut_out, leaf_survey, names_survey, nothing, substitute_form, survey, surveys, variable_survey}
 use Rattle.rendering_nodes.specs.Content.{stage}
 use Rattle.rendering_nodes.specs.Findings.{stage_then}
 use Rattle.rendering_nodes.specs.declared.finding.Findings.{Findings}
+use Rattle.rendering_taxonomy.specs.declared.variable.NameVariable.{NameVariable}
 
 -- a stage before or after the first date
 abbrev dated : Stage → Bool → Stage
@@ -25,6 +26,20 @@ allowed c first_date_only a b e = absurd (true≢false e)
 allowed c suffix_only a b e = absurd (true≢false e)
 allowed c (authors_alone v) a b e = refl
 allowed c (without_names v) a b e = refl
+
+whole_unasked : (b : Bool) (v : NameVariable) → asks_for_date (if b then whole else authors_alone v) ≡ false
+whole_unasked true v = refl
+whole_unasked false v = refl
+
+-- nor is it asked in the substitute of names
+substitute_unasked : (form : SpecialForm) (vs : List NameVariable) (xs : Nodes) → asks_for_date form ≡ false → asks_for_date (substitute_form form vs xs) ≡ false
+substitute_unasked whole vs xs e = e
+substitute_unasked (author_only v) vs xs e = e
+substitute_unasked without_author vs xs e = e
+substitute_unasked first_date_only vs xs e = e
+substitute_unasked suffix_only vs xs e = e
+substitute_unasked (authors_alone v) vs xs e = whole_unasked (holds_names_of v vs xs) v
+substitute_unasked (without_names v) vs xs e = e
 
 leaf_same : (s : Stage) (a b : Bool) (x : Leaf) → asks_for_date s.form ≡ false → leaf_survey (dated s a) x ≡ leaf_survey (dated s b) x
 leaf_same s a b (nodes.text (of_variable v form) look) e = refl
@@ -43,7 +58,10 @@ mutual
   survey_same s a b (leaf l) e = leaf_same s a b l e
   survey_same s a b (call name look) e = refl
   survey_same s a b (opened look xs) e = ap (λ (v : Survey). containing v.is_admitted v) (surveys_same s a b xs e)
-  survey_same s a b (names h xs) e = names_same s a b h (has_people s h) (is_shut_out s h xs) (surveys (dated s a) xs) (surveys (dated s b) xs) (surveys_same s a b xs e)
+  survey_same s a b (names h xs) e =
+      let inner = in_substitute_of h xs s in
+      names_same s a b h (has_people s h) (is_shut_out s h xs) (surveys (dated inner a) xs) (surveys (dated inner b) xs)
+      (surveys_same inner a b xs (substitute_unasked s.form h.variables xs e))
   survey_same s a b (choose bs) e = branch_same s a b bs e
   survey_same s a b (group g xs) e = ap group_survey (surveys_same s a b xs e)
 

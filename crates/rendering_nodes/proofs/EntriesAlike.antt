@@ -19,8 +19,8 @@ use Rattle.rendering_context.specs.Answering.{Answer, no_answer, pieces, address
 use Rattle.rendering_context.specs.Choosing.{asks_disambiguate}
 use Rattle.rendering_leaves.specs.NodeSettings.{SpecialForm, whole, author_only, without_author, first_date_only, suffix_only, authors_alone, without_names, NodeSetting, State, noted, append}
 use Rattle.rendering_leaves.specs.Values.{text_manner, number_manner, date_manner, frame, quote_before, quote_after, answer_pieces, identified, label_suffix, source_pieces, text_pieces, label_term, date_inside, date_frame, date_suffix, day_pieces, suppressing, after_variable, append_leaf, is_passed_over}
-use Rattle.rendering_nodes.specs.Admission.{Survey, Stage, nothing, both, containing, words_survey, variable_survey, allows_variable, allows_date, has_people, is_of, is_shut_out_by, stand_for_names, stands_for_names, names_survey, leaf_survey, group_survey, survey, surveys, branch_survey}
-use Rattle.rendering_nodes.specs.Content.{taken, disambiguated, with_people_printed, append_names, names_in, macro_frame, group_frame, stage, entered, left, inside_macro, inside_group, inside_names, delimited, delimited_frame, delimits_printed, tried, accepted, people_of, names_or_substitute, content, contents, chosen, first_substitute}
+use Rattle.rendering_nodes.specs.Admission.{Survey, Stage, nothing, both, containing, words_survey, variable_survey, allows_variable, allows_date, has_people, in_substitute_of, is_shut_out, names_survey, leaf_survey, group_survey, survey, surveys, branch_survey}
+use Rattle.rendering_nodes.specs.Content.{substituted_names, taken, disambiguated, with_people_printed, append_names, names_in, macro_frame, group_frame, stage, entered, left, inside_macro, inside_group, inside_names, delimited, delimited_frame, delimits_printed, tried, accepted, people_of, names_or_substitute, content, contents, chosen, first_substitute}
 use Rattle.rendering_leaves.specs.Quoted.{are_inner, requoted}
 use Rattle.rendering_nodes.specs.Named.{joined_named, variable_named, named_in_source, named_in_leaf, named_in_tests, named_in, named, named_in_branches, always_named, people_named}
 use Rattle.rendering_nodes.specs.Laws.{with_answers, AlikeEntriesPrintAlike}
@@ -29,7 +29,6 @@ use Rattle.rendering_taxonomy.specs.declared.date.LongShortForm.{LongShortForm}
 use Rattle.rendering_taxonomy.specs.declared.date.LongShortForm.TheVariants as lengths
 use Rattle.rendering_taxonomy.specs.declared.number.NumberForm.{NumberForm}
 use Rattle.rendering_taxonomy.specs.declared.number.NumberForm.TheVariants as number_forms
-use Rattle.rendering_taxonomy.specs.declared.variable.NameVariable.{NameVariable}
 use Rattle.rendering_taxonomy.specs.declared.variable.NumberVariable.TheVariants as number
 use Rattle.rendering_taxonomy.specs.declared.variable.StandardVariable.TheVariants as standard
 use Rattle.rendering_taxonomy.specs.declared.variable.Variable.{Variable}
@@ -168,34 +167,6 @@ leaf_same a b c s (nodes.date d) st l h =
 
 -- What is admitted.
 
-stands_same : (a b : Answers) (c : Context) (v : NameVariable) (x : Node) → AlikeIn c.is_published (named_in x) a b
-    → stands_for_names (with_answers a c) v x ≡ stands_for_names (with_answers b c) v x
-stands_same a b c v (leaf x) h = refl
-stands_same a b c v (call name look) h = refl
-stands_same a b c v (opened look xs) h = refl
-stands_same a b c v (names hd xs) h =
-    ap (λ ps. is_of v hd && is_filled ps) (all_people_same a b c [] hd.variables (first_alike (people_named hd.variables) (named xs) a b h))
-stands_same a b c v (choose bs) h = refl
-stands_same a b c v (group g xs) h = refl
-
-stand_same : (a b : Answers) (c : Context) (v : NameVariable) (xs : Nodes) → AlikeIn c.is_published (named xs) a b
-    → stand_for_names (with_answers a c) v xs ≡ stand_for_names (with_answers b c) v xs
-stand_same a b c v no_nodes h = refl
-stand_same a b c v (node x xs) h =
-    let first = stands_same a b c v x (first_alike (named_in x) (named xs) a b h) in
-    let rest = stand_same a b c v xs (others_alike (named_in x) (named xs) a b h) in
-    λ i. first i || rest i
-
-shut_out_same : (a b : Answers) (c : Context) (form : SpecialForm) (hd : NamesNode) (xs : Nodes) → AlikeIn c.is_published (named xs) a b
-    → is_shut_out_by form (with_answers a c) hd xs ≡ is_shut_out_by form (with_answers b c) hd xs
-shut_out_same a b c whole hd xs h = refl
-shut_out_same a b c (author_only v) hd xs h = refl
-shut_out_same a b c without_author hd xs h = refl
-shut_out_same a b c first_date_only hd xs h = refl
-shut_out_same a b c suffix_only hd xs h = refl
-shut_out_same a b c (authors_alone v) hd xs h = refl
-shut_out_same a b c (without_names v) hd xs h = ap (λ o. is_of v hd || o) (stand_same a b c v xs h)
-
 mutual
   pub survey_same : (a b : Answers) (s : Stage) (x : Node) → LabelsAlike a b → AlikeIn s.context.is_published (named_in x) a b → survey (answering a s) x ≡ survey (answering b s) x
   survey_same a b s (leaf x) l h = leaf_survey_same a b s x l h
@@ -205,10 +176,9 @@ mutual
       let here = people_named hd.variables in
       let people = ap is_filled (all_people_same a b s.context s.suppressed hd.variables (first_alike here (named xs) a b h)) in
       let rest = others_alike here (named xs) a b h in
-      let out = shut_out_same a b s.context s.form hd xs rest in
-      let inside = surveys_same a b s xs l rest in
-      (λ i. names_survey (answering a s) hd (people i) (out i) (inside i))
-      ∙ names_survey_same a b s hd (has_people (answering b s) hd) (is_shut_out_by s.form (with_answers b s.context) hd xs) (surveys (answering b s) xs)
+      let inside = surveys_same a b (in_substitute_of hd xs s) xs l rest in
+      (λ i. names_survey (answering a s) hd (people i) (is_shut_out s hd xs) (inside i))
+      ∙ names_survey_same a b s hd (has_people (answering b s) hd) (is_shut_out s hd xs) (surveys (answering b (in_substitute_of hd xs s)) xs)
   survey_same a b s (choose bs) l h = branches_same a b s bs l h
   survey_same a b s (group g xs) l h = ap group_survey (surveys_same a b s xs l h)
 
@@ -258,11 +228,11 @@ mutual
       λ i. left c f (after i) (contents_same a b c (inside_macro s look) true xs (entered c f (before i) st) l h i)
   content_same a b c outer s (names hd xs) st l h =
       let here = people_named hd.variables in
-      let raised = names_in s.form (taken outer hd) in
+      let raised = names_in s.form (taken (substituted_names c.is_published outer s) hd) in
       let people = all_people_same a b c st.suppressed hd.variables (first_alike here (named xs) a b h) in
       let rest = others_alike here (named xs) a b h in
-      (λ i. names_or_substitute (with_answers a c) s raised (λ before. substitute_same a b c raised (inside_names s raised) xs before l rest i) (people i) st)
-      ∙ substituted_same a b c s raised (first_substitute (with_answers b c) raised (inside_names s raised) xs) (people_of (with_answers b c) st hd) st
+      (λ i. names_or_substitute (with_answers a c) s raised (λ before. substitute_same a b c raised (inside_names s raised xs) xs before l rest i) (people i) st)
+      ∙ substituted_same a b c s raised (first_substitute (with_answers b c) raised (inside_names s raised xs) xs) (people_of (with_answers b c) st hd) st
   content_same a b c outer s (choose bs) st l h = chosen_same a b c s bs st l h
   content_same a b c outer s (group g xs) st l h =
       let f = group_frame s g in

@@ -10,8 +10,9 @@ use Rattle.rendering_style.specs.Opening.{each_branch, each_node, open_node, par
 use Rattle.rendering_style.specs.Views.{node_view, nodes_view}
 use Rattle.rendering_style.specs.Styles.{Macro}
 use Rattle.rendering_style.specs.declared.node.Node as declared
+use Rattle.rendering_taxonomy.specs.declared.variable.NameVariable.{NameVariable}
 use Rattle.rendering_taxonomy.specs.declared.variable.Variable.{Variable}
-use Rattle.rendering_nodes.specs.Admission.{Stage, has_people, is_shut_out}
+use Rattle.rendering_nodes.specs.Admission.{Stage, has_people, in_substitute_of, is_shut_out, substitute_form}
 use Rattle.rendering_nodes.specs.Content.{stage}
 use Rattle.rendering_nodes.specs.Findings.{AreAll, AreFound, AreFoundInside, Asked, IsFound, IsSurveyed, beside_people, found, node_asked, stage_then}
 use Rattle.rendering_nodes.specs.Taken.{taken}
@@ -41,10 +42,12 @@ beside_all true out (f ∷ fs) all e = never_all true f fs all e
 beside_all false out (f ∷ fs) all e = never_all out f fs all e
 
 -- of the substitute of names
-pub substitutes_as : (c : Context) (form : SpecialForm) (k : Findings) (h : NamesNode) (xs : Nodes) (y : Node) → y ≡ nodes.names h xs → AreFoundInside c form k y → AreFound c form k xs
-substitutes_as c form k h xs y same known =
+pub substitutes_as : (c : Context) (form : SpecialForm) (k : Findings) (h : NamesNode) (vs : List NameVariable) (xs : Nodes) (y : Node) → y ≡ nodes.names h xs → vs ≡ h.variables
+    → AreFoundInside c form k y → AreFound c (substitute_form form vs xs) k xs
+substitutes_as c form k h vs xs y same are known =
     let s = stage_then c form k in
-    beside_all (has_people s h) (is_shut_out s h xs) k.nodes.now (found s xs) (inside_as c form k y (nodes.names h xs) same known)
+    subst (λ (ws : List NameVariable). AreFound c (substitute_form form ws xs) k xs) (sym are)
+    (beside_all (has_people s h) (is_shut_out s h xs) k.nodes.now (found (in_substitute_of h xs s) xs) (inside_as c form k y (nodes.names h xs) same known))
 
 -- of the branch that is taken
 pub taken_as : (c : Context) (form : SpecialForm) (k : Findings) (f : Node → Node) (bs : Branches) (xs : Nodes) (met : Bool) → (xs, met) ≡ taken c bs

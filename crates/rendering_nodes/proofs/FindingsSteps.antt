@@ -8,7 +8,7 @@ use Rattle.rendering_style.specs.Nodes.{GroupNode, Leaf, NamesNode, Node, Nodes,
 use Rattle.rendering_style.specs.Opening.{each_node, each_branch}
 use Rattle.rendering_style.specs.Views.{node_view, nodes_view}
 use Rattle.rendering_style.specs.declared.node.Node as viewed
-use Rattle.rendering_nodes.specs.Admission.{Stage, Survey, both, containing, group_survey, has_people, is_shut_out, leaf_survey, names_survey, nothing, survey, surveys, variable_survey}
+use Rattle.rendering_nodes.specs.Admission.{Stage, Survey, both, containing, group_survey, has_people, in_substitute_of, is_shut_out, leaf_survey, names_survey, nothing, substitute_survey, survey, surveys, variable_survey}
 use Rattle.rendering_nodes.specs.Findings.{Asked, all_asked, beside_people, branch_found, found, found_inside, next_asked, node_asked, with_finding}
 use Rattle.rendering_nodes.specs.Taken.{TakenNodes, taken, taken_after}
 use Rattle.rendering_nodes.specs.Views.{survey_view}
@@ -49,11 +49,11 @@ macro_is s before after v inside look xs y e is same =
 
 -- names with people
 pub names_with_people : (s : Stage) (before : List Finding) (v : Survey) (h : NamesNode) (xs : Nodes) (b a : Bool)
-    → b ≡ has_people s h → b ≡ true → v ≡ variable_survey a → a ≡ (names_survey s h true (is_shut_out s h xs) (surveys s xs)).is_admitted
+    → b ≡ has_people s h → b ≡ true → v ≡ variable_survey a → a ≡ (names_survey s h true (is_shut_out s h xs) (surveys (in_substitute_of h xs s) xs)).is_admitted
     → (v, before) ≡ node_asked s before (nodes.names h xs)
 names_with_people s before v h xs b a is so e allowed =
     (λ i. ((e ∙ ap variable_survey allowed) i, sym (append-nil before) i))
-    ∙ ap (λ (p : Bool). (names_survey s h p (is_shut_out s h xs) (surveys s xs), before ++ beside_people p (is_shut_out s h xs) (found s xs))) (sym so ∙ is)
+    ∙ ap (λ (p : Bool). (names_survey s h p (is_shut_out s h xs) (surveys (in_substitute_of h xs s) xs), before ++ beside_people p (is_shut_out s h xs) (found (in_substitute_of h xs s) xs))) (sym so ∙ is)
 
 -- names that are shut out
 pub names_shut_out : (s : Stage) (before : List Finding) (v : Survey) (h : NamesNode) (xs : Nodes) (b out : Bool)
@@ -61,18 +61,18 @@ pub names_shut_out : (s : Stage) (before : List Finding) (v : Survey) (h : Names
     → (v, before) ≡ node_asked s before (nodes.names h xs)
 names_shut_out s before v h xs b out is so shut out_is e =
     (λ i. (e i, sym (append-nil before) i))
-    ∙ ap (λ (p : Bool). (if p then variable_survey false else record (surveys s xs) { calls = true }, before ++ (if p then [] else found s xs))) (sym out_is ∙ shut)
-    ∙ ap (λ (p : Bool). (names_survey s h p (is_shut_out s h xs) (surveys s xs), before ++ beside_people p (is_shut_out s h xs) (found s xs))) (sym so ∙ is)
+    ∙ ap (λ (p : Bool). (if p then variable_survey false else substitute_survey s.form (surveys (in_substitute_of h xs s) xs), before ++ (if p then [] else found (in_substitute_of h xs s) xs))) (sym out_is ∙ shut)
+    ∙ ap (λ (p : Bool). (names_survey s h p (is_shut_out s h xs) (surveys (in_substitute_of h xs s) xs), before ++ beside_people p (is_shut_out s h xs) (found (in_substitute_of h xs s) xs))) (sym so ∙ is)
 
 -- the substitute of names
 pub names_substituted : (s : Stage) (before after : List Finding) (v inside : Survey) (h : NamesNode) (xs : Nodes) (b out : Bool)
-    → b ≡ has_people s h → b ≡ false → out ≡ is_shut_out s h xs → out ≡ false → v ≡ record inside { calls = true } → (inside, after) ≡ all_asked s before xs
+    → b ≡ has_people s h → b ≡ false → out ≡ is_shut_out s h xs → out ≡ false → v ≡ substitute_survey s.form inside → (inside, after) ≡ all_asked (in_substitute_of h xs s) before xs
     → (v, after) ≡ node_asked s before (nodes.names h xs)
 names_substituted s before after v inside h xs b out is so shut clear e asked =
     (λ i. (e i, after))
-    ∙ ap (λ (a : Asked). (record a.0 { calls = true }, a.1)) asked
-    ∙ ap (λ (p : Bool). (if p then variable_survey false else record (surveys s xs) { calls = true }, before ++ (if p then [] else found s xs))) (sym clear ∙ shut)
-    ∙ ap (λ (p : Bool). (names_survey s h p (is_shut_out s h xs) (surveys s xs), before ++ beside_people p (is_shut_out s h xs) (found s xs))) (sym so ∙ is)
+    ∙ ap (λ (a : Asked). (substitute_survey s.form a.0, a.1)) asked
+    ∙ ap (λ (p : Bool). (if p then variable_survey false else substitute_survey s.form (surveys (in_substitute_of h xs s) xs), before ++ (if p then [] else found (in_substitute_of h xs s) xs))) (sym clear ∙ shut)
+    ∙ ap (λ (p : Bool). (names_survey s h p (is_shut_out s h xs) (surveys (in_substitute_of h xs s) xs), before ++ beside_people p (is_shut_out s h xs) (found (in_substitute_of h xs s) xs))) (sym so ∙ is)
 
 found_by : (b : Bool) (s : Stage) (xs : Nodes) (fs : List Finding) (m : Bool) (t : TakenNodes) → fs ≡ found s t.0 → (if b then found s xs else fs) ≡ found s (if b then (xs, m) else t).0
 found_by true s xs fs m t e = refl

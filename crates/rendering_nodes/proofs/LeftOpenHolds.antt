@@ -1,10 +1,10 @@
 -- What published styles ask for changes nothing of what others print.
-use Rattle.std.proofs.Common.{Bool, [], ◌∷◌, ◌&&◌, refl, ap}
+use Rattle.std.proofs.Common.{Bool, [], ◌∷◌, ◌&&◌, refl, ap, None, Some}
 use Rattle.std.specs.Prelude.{if◌then◌else◌, is_some}
 use Rattle.rendering_leaves.specs.NodeSettings.{whole, author_only, without_author, first_date_only, suffix_only, authors_alone, without_names, State, append, with_variable}
 use Rattle.rendering_page.specs.Pieces.{end}
 use Rattle.rendering_nodes.specs.Content.{bare, delimited, delimited_frame, entered, left}
-use Rattle.rendering_nodes.specs.LeftOpen.{AdmittedNodesAreDelimited, SubstitutesSuppressAtOnce, AcceptedSubstitutesEnd, NodesHaveTheirAffixes}
+use Rattle.rendering_nodes.specs.LeftOpen.{AdmittedNodesAreDelimited, SubstitutesSuppressAtOnce, AcceptedSubstitutesEnd, NodesHaveTheirAffixes, SubstitutesAloneTake, SubstitutesKeepTheForm}
 
 pub admitted_delimited : AdmittedNodesAreDelimited
 admitted_delimited c s is_first append_node st e =
@@ -27,3 +27,16 @@ affixes_stay first_date_only l h = refl
 affixes_stay suffix_only l h = refl
 affixes_stay (authors_alone v) l h = absurd (h v refl)
 affixes_stay (without_names v) l h = refl
+
+pub substitutes_take : SubstitutesAloneTake
+substitutes_take None s = refl
+substitutes_take (Some outer) s = refl
+
+pub form_stays : SubstitutesKeepTheForm
+form_stays whole vs xs inside h = (refl, refl)
+form_stays (author_only v) vs xs inside h = (refl, refl)
+form_stays without_author vs xs inside h = (refl, refl)
+form_stays first_date_only vs xs inside h = (refl, refl)
+form_stays suffix_only vs xs inside h = (refl, refl)
+form_stays (authors_alone v) vs xs inside h = absurd (h v refl)
+form_stays (without_names v) vs xs inside h = (refl, refl)

@@ -9,10 +9,10 @@ use Rattle.literature_values.specs.declared.date.Date.{Date}
 use Rattle.rendering_style.specs.Nodes.{TextSource, of_variable, of_term, of_value, NamesNode, GroupNode, Leaf, Node, Nodes, Branches, leaf, call, opened, names, choose, group, no_nodes, node, otherwise, branch}
 use Rattle.rendering_style.specs.Nodes as nodes
 use Rattle.rendering_context.specs.Contexts.{Context}
-use Rattle.rendering_leaves.specs.NodeSettings.{noted}
+use Rattle.rendering_leaves.specs.NodeSettings.{SpecialForm, noted}
 use Rattle.rendering_context.specs.Answering.{no_answer, is_missing, answer_of, asked_for, exchanged_for, answer_to, people_answer, with_people, all_people}
 use Rattle.rendering_context.specs.Choosing.{is_met}
-use Rattle.rendering_nodes.specs.Admission.{Survey, Stage, variable_survey, allows_variable, allows_date, is_shut_out, names_survey, leaf_survey, survey, surveys, branch_survey}
+use Rattle.rendering_nodes.specs.Admission.{Survey, Stage, variable_survey, allows_variable, allows_date, in_substitute_of, is_shut_out, names_survey, leaf_survey, substitute_survey, survey, surveys, branch_survey}
 use Rattle.rendering_nodes.specs.Content.{stage, content, delimited_node}
 use Rattle.rendering_nodes.specs.Named.{named_in_leaf, named_in_tests, named_in, named, named_in_branches, is_word_leaf, has_words_in, has_words, has_words_in_branches}
 use Rattle.rendering_nodes.specs.Laws.{HasNoAnswer, UnansweredGroupsAddNothing}
@@ -82,9 +82,9 @@ nobody c sup (v ∷ vs) h =
     (same_if (is_among sup (variables.Name v)) [] (c.answers.people v) (left_without c (variables.Name v ∷ []) (map (λ w. variables.Name w) vs) h (variables.Name v) (Contains-push [] (variables.Name v))))
     ∙ nobody c sup vs (right_without c (variables.Name v ∷ []) (map (λ w. variables.Name w) vs) h)
 
-without_people : (b : Bool) (inside : Survey) → inside.is_admitted ≡ false → (if b then variable_survey false else record inside { calls = true }).is_admitted ≡ false
-without_people true inside e = refl
-without_people false inside e = e
+without_people : (b : Bool) (form : SpecialForm) (inside : Survey) → inside.is_admitted ≡ false → (if b then variable_survey false else substitute_survey form inside).is_admitted ≡ false
+without_people true form inside e = refl
+without_people false form inside e = e
 
 or_parts_false : (a b : Bool) → (a || b) ≡ false → (a ≡ false) × (b ≡ false)
 or_parts_false true b e = cc
@@ -104,8 +104,8 @@ mutual
   out_of s (opened look xs) w h = all_out s xs w h
   out_of s (names hd xs) w h =
       let here = map (λ v. variables.Name v) hd.variables in
-      ap (λ b. (names_survey s hd b (is_shut_out s hd xs) (surveys s xs)).is_admitted) (ap is_filled (nobody s.context s.suppressed hd.variables (left_without s.context here (named xs).variables h)))
-      ∙ without_people (is_shut_out s hd xs) (surveys s xs) (all_out s xs w (right_without s.context here (named xs).variables h))
+      ap (λ b. (names_survey s hd b (is_shut_out s hd xs) (surveys (in_substitute_of hd xs s) xs)).is_admitted) (ap is_filled (nobody s.context s.suppressed hd.variables (left_without s.context here (named xs).variables h)))
+      ∙ without_people (is_shut_out s hd xs) s.form (surveys (in_substitute_of hd xs s) xs) (all_out (in_substitute_of hd xs s) xs w (right_without s.context here (named xs).variables h))
   out_of s (choose bs) w h = branches_out s bs w h
   out_of s (group g xs) w h = ap (λ b. b && not ((surveys s xs).calls && not (surveys s xs).is_answered)) (all_out s xs w h)
 

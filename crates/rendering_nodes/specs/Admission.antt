@@ -1,5 +1,5 @@
 -- Which nodes are admitted: those that have something to print and are not excluded.
-use Rattle.std.specs.Prelude.{Bool, true, false, not, ◌&&◌, ◌||◌, List, [], if◌then◌else◌}
+use Rattle.std.specs.Prelude.{Bool, true, false, not, ◌&&◌, ◌||◌, List, if◌then◌else◌}
 use Rattle.std.specs.List.{list_any}
 use Rattle.std.specs.Option.{option_map_or}
 use Rattle.laws.specs.Text.{is_filled}
@@ -119,6 +119,27 @@ allows_names suffix_only h = false
 allows_names (authors_alone v) h = is_of v h
 allows_names (without_names v) h = not (is_of v h)
 
+-- whether a node is names of a variable
+abbrev pub is_names_of : NameVariable → Node → Bool
+is_names_of v (names h xs) = is_of v h
+is_names_of v x = false
+
+-- whether one of the nodes is
+abbrev pub have_names_of : NameVariable → Nodes → Bool
+have_names_of v no_nodes = false
+have_names_of v (node x xs) = is_names_of v x || have_names_of v xs
+
+-- whether names of some variables hold those of a variable: it is one of these, or its names would stand for them
+abbrev pub holds_names_of : NameVariable → List NameVariable → Nodes → Bool
+holds_names_of v vs xs = list_any (is_name_variable v) vs || have_names_of v xs
+
+-- The form of the substitute of names of some variables. Where the names of a variable are printed alone, all is printed of what stands for
+-- names that hold those.
+abbrev pub substitute_form : SpecialForm → List NameVariable → Nodes → SpecialForm
+substitute_form (authors_alone v) vs xs =
+    if holds_names_of v vs xs then whole else authors_alone v
+substitute_form form vs xs = form
+
 -- How far a call has come: what it prints from and in which form, whether the first date was printed, and which variables are not printed again.
 pub record Stage : Type 0 where
   pub context : Context
@@ -143,35 +164,42 @@ leaf_survey s (nodes.number n) = variable_survey (is_there s n.variable && allow
 leaf_survey s (nodes.label v look) = words_survey (is_there s v && allows_variable s.form v)
 leaf_survey s (nodes.date d) = variable_survey (option_map_or (λ day. true) (date_answer s.context s.suppressed d.variable) false && allows_date s.context s.has_date s.form)
 
+-- whether what stands for names is an answer: all that is printed of it, where names are printed alone
+abbrev pub substitute_answers : SpecialForm → Survey → Bool
+substitute_answers (authors_alone v) inside = inside.is_admitted
+substitute_answers form inside = inside.is_answered
+
+-- what is asked of names whose substitute is asked
+abbrev pub substitute_survey : SpecialForm → Survey → Survey
+substitute_survey form inside = record inside {
+  calls = true;
+  is_answered = substitute_answers form inside;
+}
+
 -- What is asked of names: of themselves where they have people, else of all of their substitute, unless that is shut out.
 abbrev pub names_survey : Stage → NamesNode → Bool → Bool → Survey → Survey
 names_survey s h true is_shut_out inside = variable_survey (allows_names s.form h)
-names_survey s h false is_shut_out inside = if is_shut_out then variable_survey false else record inside { calls = true }
+names_survey s h false is_shut_out inside =
+    if is_shut_out then variable_survey false else substitute_survey s.form inside
+
+-- how far a call has come in the substitute of names
+abbrev pub in_substitute_of : NamesNode → Nodes → Stage → Stage
+in_substitute_of h xs s = record s { form = substitute_form s.form h.variables xs }
 
 -- whether one of their variables has people
 abbrev pub has_people : Stage → NamesNode → Bool
 has_people s h = is_filled (all_people s.context s.suppressed h.variables)
 
--- whether a node is names of a variable that have people, printed before or not
-abbrev pub stands_for_names : Context → NameVariable → Node → Bool
-stands_for_names c v (names h xs) = is_of v h && is_filled (all_people c [] h.variables)
-stands_for_names c v x = false
-
--- whether one of the nodes is
-abbrev pub stand_for_names : Context → NameVariable → Nodes → Bool
-stand_for_names c v no_nodes = false
-stand_for_names c v (node x xs) = stands_for_names c v x || stand_for_names c v xs
-
 -- Whether a form shuts the substitute of names out: of names that it leaves out, and in a published style of those for which such names
 -- would stand too.
-abbrev pub is_shut_out_by : SpecialForm → Context → NamesNode → Nodes → Bool
-is_shut_out_by without_author c h xs = is_of name.Author h
-is_shut_out_by (without_names v) c h xs = is_of v h || stand_for_names c v xs
-is_shut_out_by form c h xs = false
+abbrev pub is_shut_out_by : SpecialForm → NamesNode → Nodes → Bool
+is_shut_out_by without_author h xs = is_of name.Author h
+is_shut_out_by (without_names v) h xs = holds_names_of v h.variables xs
+is_shut_out_by form h xs = false
 
 -- whether the substitute of names is shut out
 abbrev pub is_shut_out : Stage → NamesNode → Nodes → Bool
-is_shut_out s h xs = is_shut_out_by s.form s.context h xs
+is_shut_out s h xs = is_shut_out_by s.form h xs
 
 -- a group prints nothing where it calls variables and none has an answer
 abbrev pub group_survey : Survey → Survey
@@ -183,7 +211,8 @@ abbrev mutual
   survey s (leaf l) = leaf_survey s l
   survey s (call name look) = nothing
   survey s (opened look xs) = let inside = surveys s xs in containing inside.is_admitted inside
-  survey s (names h xs) = names_survey s h (has_people s h) (is_shut_out s h xs) (surveys s xs)
+  survey s (names h xs) =
+      names_survey s h (has_people s h) (is_shut_out s h xs) (surveys (in_substitute_of h xs s) xs)
   survey s (choose bs) = branch_survey s bs
   survey s (group g xs) = group_survey (surveys s xs)
 

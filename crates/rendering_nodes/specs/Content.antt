@@ -13,7 +13,7 @@ use Rattle.rendering_context.specs.Contexts.{Context}
 use Rattle.rendering_leaves.specs.NodeSettings.{SpecialForm, authors_alone, NodeSetting, State, append, noted, with_printed, standing}
 use Rattle.rendering_context.specs.Answering.{all_people}
 use Rattle.rendering_context.specs.Choosing.{is_met, asks_disambiguate}
-use Rattle.rendering_nodes.specs.Admission.{Stage, survey}
+use Rattle.rendering_nodes.specs.Admission.{Stage, substitute_form, survey}
 use Rattle.rendering_leaves.specs.Values.{look_manner, text_manner, frame, quote_before, quote_after, append_leaf}
 use Rattle.rendering_taxonomy.specs.declared.variable.Variable.TheVariants as variables
 
@@ -21,6 +21,11 @@ use Rattle.rendering_taxonomy.specs.declared.variable.Variable.TheVariants as va
 abbrev pub taken : Option NamesNode → NamesNode → NamesNode
 taken None h = h
 taken (Some outer) h = completed outer h
+
+-- The names whose substitute a node stands in: directly, or in a published style in groups and branches too.
+abbrev pub substituted_names : Bool → Option NamesNode → NodeSetting → Option NamesNode
+substituted_names is_published None s = if is_published then s.outer_names else None
+substituted_names is_published (Some outer) s = Some outer
 
 -- Of the first names that are printed more may be printed than the options say, to disambiguate people and cites.
 abbrev pub disambiguated : Context → Option Properties → Properties → Properties
@@ -76,17 +81,27 @@ entered c f quote st = append c (begin f ∷ quote) st
 abbrev pub left : Context → Frame → List Piece → State → State
 left c f quote st = append c (quote ++ end f ∷ []) st
 
--- what is handed down inside an opened macro: no delimiter, and quotes of the other kind where the macro stands in quotes
+-- what is handed down inside an opened macro: no delimiter and no names around, and quotes of the other kind where the macro stands in quotes
 abbrev pub inside_macro : NodeSetting → TextLook → NodeSetting
-inside_macro s look = record s { manner = text_manner s.manner look; delimiter = None; inside_quotes = if look.quotes then not s.inside_quotes else s.inside_quotes }
+inside_macro s look = record s {
+  manner = text_manner s.manner look;
+  delimiter = None;
+  inside_quotes = if look.quotes then not s.inside_quotes else s.inside_quotes;
+  outer_names = None;
+}
 
 -- what is handed down inside a group
 abbrev pub inside_group : NodeSetting → GroupNode → NodeSetting
 inside_group s g = record s { manner = look_manner s.manner g.look; delimiter = g.delimiter }
 
 -- what is handed down inside a names node whose substitute is printed
-abbrev pub inside_names : NodeSetting → NamesNode → NodeSetting
-inside_names s h = record s { manner = names_manner s.manner h; in_substitute = true }
+abbrev pub inside_names : NodeSetting → NamesNode → Nodes → NodeSetting
+inside_names s h xs = record s {
+  manner = names_manner s.manner h;
+  in_substitute = true;
+  form = substitute_form s.form h.variables xs;
+  outer_names = Some h;
+}
 
 -- what stands between the children of the group around, before all but the first
 abbrev pub delimited : Context → NodeSetting → Bool → State → State
@@ -139,8 +154,8 @@ abbrev mutual
       (contents c (inside_macro s look) true xs
       (entered c (macro_frame s look) (quote_before c (text_manner s.manner look) look.quotes s.inside_quotes) st))
   content c outer s (names h xs) st =
-      let own = names_in s.form (taken outer h) in
-      names_or_substitute c s own (first_substitute c own (inside_names s own) xs) (people_of c st h) st
+      let own = names_in s.form (taken (substituted_names c.is_published outer s) h) in
+      names_or_substitute c s own (first_substitute c own (inside_names s own xs) xs) (people_of c st h) st
   content c outer s (choose bs) st = chosen c s bs st
   content c outer s (group g xs) st =
       left c (group_frame s g) [] (contents c (inside_group s g) true xs (entered c (group_frame s g) [] st))

@@ -5,7 +5,7 @@ use Rattle.rendering_context.specs.Contexts.{Context}
 use Rattle.rendering_context.specs.Choosing.{is_met}
 use Rattle.rendering_leaves.specs.NodeSettings.{SpecialForm, State}
 use Rattle.rendering_leaves.specs.NodeSettings as settings
-use Rattle.rendering_nodes.specs.Admission.{Survey, Stage, has_people, is_shut_out, survey, surveys}
+use Rattle.rendering_nodes.specs.Admission.{Survey, Stage, has_people, in_substitute_of, is_shut_out, survey, surveys}
 use Rattle.rendering_nodes.specs.Content.{stage}
 use Rattle.rendering_nodes.specs.declared.finding.Finding.{Finding}
 use Rattle.rendering_nodes.specs.declared.finding.Findings.{Findings}
@@ -33,7 +33,8 @@ abbrev mutual
   found_inside s (leaf l) = []
   found_inside s (call name look) = []
   found_inside s (opened look xs) = found s xs
-  found_inside s (names h xs) = beside_people (has_people s h) (is_shut_out s h xs) (found s xs)
+  found_inside s (names h xs) =
+      beside_people (has_people s h) (is_shut_out s h xs) (found (in_substitute_of h xs s) xs)
   found_inside s (choose bs) = branch_found s bs
   found_inside s (group g xs) = found s xs
 

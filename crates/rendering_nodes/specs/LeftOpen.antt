@@ -1,11 +1,12 @@
 -- What styles that are no published ones print is not changed by what published ones ask for.
-use Rattle.std.specs.Prelude.{◌≡◌, Bool, false, [], ◌∷◌, if◌then◌else◌}
+use Rattle.std.specs.Prelude.{◌≡◌, Bool, false, List, [], ◌∷◌, if◌then◌else◌, Option}
 use Rattle.rendering_context.specs.Contexts.{Context}
 use Rattle.rendering_leaves.specs.NodeSettings.{SpecialForm, authors_alone, NodeSetting, State, append, with_variable}
 use Rattle.rendering_leaves.specs.Values.{suppressing}
 use Rattle.rendering_page.specs.Pieces.{end}
-use Rattle.rendering_style.specs.Nodes.{Look}
-use Rattle.rendering_nodes.specs.Content.{accepted, bare, delimited, delimited_node, look_in}
+use Rattle.rendering_style.specs.Nodes.{Look, NamesNode, Nodes}
+use Rattle.rendering_nodes.specs.Admission.{Survey, substitute_answers, substitute_form}
+use Rattle.rendering_nodes.specs.Content.{accepted, bare, delimited, delimited_node, look_in, substituted_names}
 use Rattle.rendering_taxonomy.specs.declared.variable.NameVariable.{NameVariable}
 use Rattle.rendering_taxonomy.specs.declared.variable.Variable.{Variable}
 
@@ -28,3 +29,15 @@ AcceptedSubstitutesEnd = (c : Context) (s : NodeSetting) (st : State) → st.is_
 -- in all forms but the one of authors alone nodes have their affixes
 abbrev pub NodesHaveTheirAffixes : Type 0
 NodesHaveTheirAffixes = (form : SpecialForm) (l : Look) → ((v : NameVariable) → form ≡ authors_alone v → ⊥) → look_in form l ≡ l
+
+-- names take what is said of names from those alone whose substitute they are themselves
+abbrev pub SubstitutesAloneTake : Type 0
+SubstitutesAloneTake =
+    (outer : Option NamesNode) (s : NodeSetting) → substituted_names false outer s ≡ outer
+
+-- in all forms but the one of authors alone a substitute is printed in the form of its names, and is an answer where it calls one
+abbrev pub SubstitutesKeepTheForm : Type 0
+SubstitutesKeepTheForm =
+    (form : SpecialForm) (vs : List NameVariable) (xs : Nodes) (inside : Survey)
+    → ((v : NameVariable) → form ≡ authors_alone v → ⊥)
+    → (substitute_form form vs xs ≡ form) × (substitute_answers form inside ≡ inside.is_answered)

@@ -6,7 +6,7 @@ use Rattle.rendering_names.specs.Names.{names_frame}
 use Rattle.rendering_context.specs.Contexts.{Context}
 use Rattle.rendering_leaves.specs.NodeSettings.{NodeSetting, State, noted}
 use Rattle.rendering_nodes.specs.Admission.{survey}
-use Rattle.rendering_nodes.specs.Content.{accepted, content, delimited_frame, delimited_node, entered, first_substitute, inside_names, left, stage, tried}
+use Rattle.rendering_nodes.specs.Content.{accepted, content, delimited_frame, delimited_node, entered, first_substitute, inside_names, left, names_in, names_or_substitute, people_of, stage, tried}
 
 -- whether a node is admitted
 abbrev pub is_next : Context → NodeSetting → Node → State → Bool
@@ -26,7 +26,14 @@ in_delimited c s x st = left c (delimited_frame s st) [] (content c None s x (en
 
 -- the element of names with their substitute
 abbrev pub substituted : Context → NodeSetting → NamesNode → Nodes → State → State
-substituted c s h xs st = left c (names_frame s.manner h []) [] (first_substitute c h (inside_names s h) xs (entered c (names_frame s.manner h []) [] st))
+substituted c s h xs st = left c (names_frame s.manner h []) [] (first_substitute c h (inside_names s h xs) xs (entered c (names_frame s.manner h []) [] st))
+
+-- names, once they say what they take from others
+abbrev pub names_appended : Context → NodeSetting → NamesNode → Nodes → State → State
+names_appended c s h xs st =
+    let own = names_in s.form h in
+    let substitute = first_substitute c own (inside_names s own xs) xs in
+    names_or_substitute c s own substitute (people_of c st h) st
 
 -- a node that is tried instead of names
 abbrev pub attempt : Context → NamesNode → NodeSetting → Node → State → State

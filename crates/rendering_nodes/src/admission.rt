@@ -158,12 +158,13 @@ impl<'a> Stage<'_, '_, 'a> {
         if self.has_people(entry, names)? {
             return Ok(Survey::of_variable(allows_names(self.form, names)));
         }
-        let is_shut_out = self.is_shut_out(entry, levels, names, substitute)?;
+        let is_shut_out = self.is_shut_out(levels, names, substitute);
         if is_shut_out {
             return Ok(Survey::of_variable(false));
         }
-        let inside = self.survey_all(entry, levels, substitute, findings)?;
-        Ok(inside.of_substitute())
+        let stage = self.in_substitute_of(levels, names, substitute);
+        let inside = stage.survey_all(entry, levels, substitute, findings)?;
+        Ok(inside.of_substitute(self.form))
     }
 
     /// Surveys the branch that is taken.

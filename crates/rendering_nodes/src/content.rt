@@ -7,9 +7,10 @@ ghost use Rattle.rendering_entries.specs.Answers.{Answers};
 ghost use Rattle.rendering_leaves.specs.NodeSettings.{noted};
 ghost use Rattle.rendering_leaves.specs.Views.{setting_view};
 ghost use Rattle.rendering_names.specs.Views.{names_parts_view};
+ghost use Rattle.rendering_nodes.specs.Admission.{substitute_form};
 ghost use Rattle.rendering_nodes.specs.Content.{accepted, content, contents, delimited_node, first_substitute, tried};
 ghost use Rattle.rendering_nodes.specs.Findings.{AreFound, AreFoundInside, IsFound, IsKnown, IsSurveyed};
-ghost use Rattle.rendering_nodes.specs.Turns.{is_next, append_next, in_delimited, settled, append_substitute, is_substitute, substituted};
+ghost use Rattle.rendering_nodes.specs.Turns.{is_next, append_next, in_delimited, names_appended, settled, append_substitute, is_substitute, substituted};
 ghost use Rattle.rendering_nodes.specs.Views.{macros_of, walk_context};
 ghost use Rattle.rendering_page.specs.Pages.{prints};
 ghost use Rattle.rendering_style.specs.Nodes as nodes;
@@ -18,7 +19,7 @@ ghost use Rattle.rendering_style.specs.Views.{branch_view, branches_of, group_no
 
 use crate::elements::{delimited_frame, delimits_printed};
 use crate::finding::{Findings, Known, NodeFinding, Surveyed};
-use crate::inner_settings::{inside_group, inside_macro, inside_names, names_in, taken};
+use crate::inner_settings::{inside_group, inside_macro, inside_names, names_in, taken_around};
 use crate::style_walk::Walk;
 use rendering_entries::EntryLike;
 use rendering_leaves::{
@@ -274,7 +275,8 @@ impl<'a> Walk<'_, 'a> {
             Node::Label(label) => push_label(&self.context, entry, setting, label, state),
             Node::Date(date) => push_date(&self.context, entry, setting, date, state),
             Node::Names(names, substitute) => {
-                let parts = taken(outer, names);
+                let is_published = self.context.is_published;
+                let parts = taken_around(is_published, outer, setting, names);
                 self.push_names(entry, setting, inner, &parts, substitute, findings, state)
             }
             Node::Choose(branches, otherwise) => {
@@ -417,12 +419,14 @@ impl<'a> Walk<'_, 'a> {
         state: &mut State<'a>,
     ) -> Result<(), AllocError>
         requires { AreFound (walk_context (E.answers entry.now) self.now)
-            (setting_view setting.now).form findings
+            (substitute_form (setting_view setting.now).form (names_parts_view parts.now).variables
+            (each_node (open_node levels (macros_of self.now)) (nodes_view substitute.now)))
+            findings
             (each_node (open_node levels (macros_of self.now)) (nodes_view substitute.now)) }
         ensures { OnOk result (state.new
-            ≡ content (walk_context (E.answers entry.now) self.now) None
-            (setting_view setting.now) (nodes.names (names_parts_view parts.now) (each_node
-            (open_node levels (macros_of self.now)) (nodes_view substitute.now))) state.old) }
+            ≡ names_appended (walk_context (E.answers entry.now) self.now)
+            (setting_view setting.now) (names_parts_view parts.now) (each_node
+            (open_node levels (macros_of self.now)) (nodes_view substitute.now)) state.old) }
     {
         let people = self
             .context
@@ -447,14 +451,17 @@ impl<'a> Walk<'_, 'a> {
         state: &mut State<'a>,
     ) -> Result<(), AllocError>
         requires { AreFound (walk_context (E.answers entry.now) self.now)
-            (setting_view setting.now).form findings
+            (substitute_form (setting_view setting.now).form (names_parts_view names.now).variables
+            (each_node (open_node levels (macros_of self.now)) (nodes_view substitute.now)))
+            findings
             (each_node (open_node levels (macros_of self.now)) (nodes_view substitute.now)) }
         ensures { OnOk result (state.new ≡ substituted (walk_context (E.answers entry.now) self.now)
             (setting_view setting.now) (names_parts_view names.now) (each_node
             (open_node levels (macros_of self.now)) (nodes_view substitute.now)) state.old) }
     {
         self.begin_names(setting, names, state)?;
-        let inside = inside_names(setting, names);
+        let form = self.substitute_form(setting.form, levels, names.variables, substitute);
+        let inside = inside_names(setting, names, form);
         self.push_first(entry, &inside, levels, names, substitute, findings, state)?;
         self.end_names(setting, names, state)
     }

@@ -1,6 +1,7 @@
 //! Which nodes are printed in a form of a layout.
 
 ghost use Rattle.std.specs.Prelude.{◌≡◌};
+ghost use Rattle.std.specs.List.{list_any};
 ghost use Rattle.rendering_leaves.specs.Views.{form_view};
 ghost use Rattle.rendering_nodes.specs.Admission as admission;
 ghost use Rattle.rendering_style.specs.Views.{names_node_view};
@@ -76,7 +77,14 @@ pub(crate) fn allows_names(form: SpecialForm, names: &Names) -> bool
 pub(crate) fn is_of(variable: NameVariable, names: &Names) -> bool
     ensures { result ≡ admission.is_of variable (names_node_view names.now) }
 {
-    for other in &names.variables {
+    is_among_names(variable, names.variables.as_slice())
+}
+
+/// Whether a variable is among some.
+pub(crate) fn is_among_names(variable: NameVariable, variables: &[NameVariable]) -> bool
+    ensures { result ≡ list_any (is_name_variable variable) variables.now }
+{
+    for other in variables {
         if is_name_variable(variable, *other) {
             return true;
         }

@@ -1,133 +1,145 @@
-//! Names that a form leaves out, with what would stand for them.
+//! Names that a form leaves out or prints alone, with what would stand for them.
 
-ghost use Rattle.std.specs.Prelude.{◌≡◌, ◌&&◌, ◌||◌, [], IfOk};
-ghost use Rattle.laws.specs.Text.{is_filled};
-ghost use Rattle.rendering_context.specs.Answering.{all_people};
-ghost use Rattle.rendering_nodes.specs.Admission.{is_of, is_shut_out, stand_for_names, stands_for_names};
+ghost use Rattle.std.specs.Prelude.{◌≡◌};
+ghost use Rattle.rendering_entries.specs.Answers.{Answers};
+ghost use Rattle.rendering_leaves.specs.NodeSettings.{authors_alone};
+ghost use Rattle.rendering_leaves.specs.Views.{form_view};
+ghost use Rattle.rendering_nodes.specs.Admission.{have_names_of, holds_names_of, in_substitute_of, is_names_of, is_shut_out_by, substitute_form};
 ghost use Rattle.rendering_nodes.specs.Views.{macros_of, stage_view};
 ghost use Rattle.rendering_style.specs.Opening.{each_node, open_node};
 ghost use Rattle.rendering_style.specs.Views.{names_node_view, node_view, nodes_view};
 
-use crate::form_admission::is_of;
+use crate::form_admission::{is_among_names, is_of};
 use crate::leaf_surveys::Stage;
-use rendering_entries::EntryLike;
+use crate::style_walk::Walk;
 use rendering_leaves::SpecialForm;
 use rendering_style::{Names, Node};
 use rendering_taxonomy::NameVariable;
-use std::alloc::AllocError;
 
-impl<'a> Stage<'_, '_, 'a> {
+impl<'t, 's, 'a> Stage<'t, 's, 'a> {
     /// Whether the form shuts the substitute of the names out.
-    ///
-    /// # Errors
-    /// Out of memory.
-    pub(crate) fn is_shut_out<E: EntryLike>(
-        &self,
-        entry: &'a E,
-        levels: usize,
-        names: &Names,
-        substitute: &'a [Node],
-    ) -> Result<bool, AllocError>
-        ensures { IfOk result (λ b. b ≡ is_shut_out (stage_view (E.answers entry.now) self.now)
-            (names_node_view names.now) (each_node
-            (open_node levels (macros_of self.now.walk.now)) (nodes_view substitute.now))) }
+    pub(crate) fn is_shut_out(&self, levels: usize, names: &Names, substitute: &[Node]) -> bool
+        ensures { result ≡ is_shut_out_by (form_view self.now.form) (names_node_view names.now)
+            (each_node (open_node levels (macros_of self.now.walk.now))
+            (nodes_view substitute.now)) }
     {
         match self.form {
-            SpecialForm::WithoutAuthor => Ok(is_of(NameVariable::Author, names)),
+            SpecialForm::WithoutAuthor => is_of(NameVariable::Author, names),
             SpecialForm::WithoutNames(variable) => {
-                self.leaves_out(entry, levels, variable, names, substitute)
+                let variables = names.variables.as_slice();
+                self.walk
+                    .holds_names_of(levels, variable, variables, substitute)
             }
             SpecialForm::Whole
             | SpecialForm::AuthorOnly(_)
             | SpecialForm::FirstDateOnly
             | SpecialForm::SuffixOnly
-            | SpecialForm::AuthorsAlone(_) => Ok(false),
+            | SpecialForm::AuthorsAlone(_) => false,
         }
     }
 
-    /// Whether the variable is one of the names, or one of those that would stand for them.
-    fn leaves_out<E: EntryLike>(
+    /// How far the call has come in the substitute of names.
+    pub(crate) fn in_substitute_of(
         &self,
-        entry: &'a E,
         levels: usize,
-        variable: NameVariable,
         names: &Names,
-        substitute: &'a [Node],
-    ) -> Result<bool, AllocError>
-        ensures { IfOk result (λ b. b ≡ (is_of variable (names_node_view names.now)
-            || stand_for_names (stage_view (E.answers entry.now) self.now).context variable
-            (each_node (open_node levels (macros_of self.now.walk.now))
-            (nodes_view substitute.now)))) }
+        substitute: &[Node],
+    ) -> Stage<'t, 's, 'a>
+        ensures stage { (a : Answers) → stage_view a result
+            ≡ in_substitute_of (names_node_view names.now)
+            (each_node (open_node levels (macros_of self.now.walk.now)) (nodes_view substitute.now))
+            (stage_view a self.now) }
+        ensures macros { macros_of result.walk.now ≡ macros_of self.now.walk.now }
     {
-        if is_of(variable, names) {
-            return Ok(true);
+        let variables = names.variables.as_slice();
+        let form = self
+            .walk
+            .substitute_form(self.form, levels, variables, substitute);
+        Stage { form, ..*self }
+    }
+}
+
+impl Walk<'_, '_> {
+    /// The form of the substitute of names of these variables. Where the names of a variable are printed alone, all is printed of what
+    /// stands for names that hold those.
+    pub(crate) fn substitute_form(
+        &self,
+        form: SpecialForm,
+        levels: usize,
+        variables: &[NameVariable],
+        substitute: &[Node],
+    ) -> SpecialForm
+        ensures { form_view result ≡ substitute_form (form_view form) variables.now
+            (each_node (open_node levels (macros_of self.now)) (nodes_view substitute.now)) }
+    {
+        match form {
+            SpecialForm::AuthorsAlone(variable) => {
+                self.alone_unless(levels, variable, variables, substitute)
+            }
+            _ => form,
         }
-        self.stand_for_names(entry, levels, variable, substitute)
     }
 
-    /// Whether one of the nodes is names of the variable that have people.
-    #[tactic(auto, using(crate::proofs::LeftOutSteps::stand_here, crate::proofs::LeftOutSteps::stand_on))]
-    fn stand_for_names<E: EntryLike>(
+    /// All, where the names hold those of the variable, and else its names alone.
+    fn alone_unless(
         &self,
-        entry: &'a E,
         levels: usize,
         variable: NameVariable,
-        nodes: &'a [Node],
-    ) -> Result<bool, AllocError>
-        ensures { IfOk result (λ b. b ≡ stand_for_names
-            (stage_view (E.answers entry.now) self.now).context variable
-            (each_node (open_node levels (macros_of self.now.walk.now)) (nodes_view nodes.now))) }
+        variables: &[NameVariable],
+        substitute: &[Node],
+    ) -> SpecialForm
+        ensures { form_view result ≡ substitute_form (authors_alone variable) variables.now
+            (each_node (open_node levels (macros_of self.now)) (nodes_view substitute.now)) }
+    {
+        if self.holds_names_of(levels, variable, variables, substitute) {
+            SpecialForm::Whole
+        } else {
+            SpecialForm::AuthorsAlone(variable)
+        }
+    }
+
+    /// Whether names of these variables hold those of a variable: it is one of these, or its names would stand for them.
+    pub(crate) fn holds_names_of(
+        &self,
+        levels: usize,
+        variable: NameVariable,
+        variables: &[NameVariable],
+        substitute: &[Node],
+    ) -> bool
+        ensures { result ≡ holds_names_of variable variables.now
+            (each_node (open_node levels (macros_of self.now)) (nodes_view substitute.now)) }
+    {
+        is_among_names(variable, variables) || self.have_names_of(levels, variable, substitute)
+    }
+
+    /// Whether one of the nodes is names of the variable.
+    #[tactic(auto, using(crate::proofs::LeftOutSteps::names_here, crate::proofs::LeftOutSteps::names_on))]
+    fn have_names_of(&self, levels: usize, variable: NameVariable, nodes: &[Node]) -> bool
+        ensures { result ≡ have_names_of variable
+            (each_node (open_node levels (macros_of self.now)) (nodes_view nodes.now)) }
     {
         for node in nodes {
-            if self.stands_for_names(entry, levels, variable, node)? {
-                return Ok(true);
+            if self.is_names_of(levels, variable, node) {
+                return true;
             }
         }
-        Ok(false)
+        false
     }
 
     /// Whether the node is.
-    #[tactic(auto, using(crate::proofs::LeftOutSteps::text_stands_not, crate::proofs::LeftOutSteps::names_stand))]
-    fn stands_for_names<E: EntryLike>(
-        &self,
-        entry: &'a E,
-        levels: usize,
-        variable: NameVariable,
-        node: &'a Node,
-    ) -> Result<bool, AllocError>
-        ensures { IfOk result (λ b. b ≡ stands_for_names
-            (stage_view (E.answers entry.now) self.now).context variable
-            (open_node levels (macros_of self.now.walk.now) (node_view node.now))) }
+    #[tactic(auto, using(crate::proofs::LeftOutSteps::text_is_no_names, crate::proofs::LeftOutSteps::names_are))]
+    fn is_names_of(&self, levels: usize, variable: NameVariable, node: &Node) -> bool
+        ensures { result
+            ≡ is_names_of variable (open_node levels (macros_of self.now) (node_view node.now)) }
     {
         if levels == 0 {
-            return Ok(false);
+            return false;
         }
         match node {
-            Node::Names(names, _) => self.has_people_of(entry, variable, names),
-            Node::Text(_) => Ok(false),
-            Node::Number(_) | Node::Label(_) | Node::Date(_) => Ok(false),
-            Node::Choose(_, _) | Node::Group(_, _) => Ok(false),
+            Node::Names(names, _) => is_of(variable, names),
+            Node::Text(_) => false,
+            Node::Number(_) | Node::Label(_) | Node::Date(_) => false,
+            Node::Choose(_, _) | Node::Group(_, _) => false,
         }
-    }
-
-    /// Whether the names are of the variable and have people, printed before or not.
-    fn has_people_of<E: EntryLike>(
-        &self,
-        entry: &'a E,
-        variable: NameVariable,
-        names: &Names,
-    ) -> Result<bool, AllocError>
-        ensures { IfOk result (λ b. b ≡ (is_of variable (names_node_view names.now)
-            && is_filled (all_people (stage_view (E.answers entry.now) self.now).context []
-            (names_node_view names.now).variables))) }
-    {
-        if !is_of(variable, names) {
-            return Ok(false);
-        }
-        let unsuppressed = Stage {
-            suppressed: &[],
-            ..*self
-        };
-        unsuppressed.has_people(entry, names)
     }
 }

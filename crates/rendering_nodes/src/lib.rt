@@ -19,7 +19,7 @@ mod survey;
 
 pub use left_open::{
     accepted_substitutes_end, admitted_nodes_are_delimited, nodes_have_their_affixes,
-    substitutes_suppress_at_once,
+    substitutes_alone_take, substitutes_keep_the_form, substitutes_suppress_at_once,
 };
 pub use node_laws::{
     alike_entries_print_alike, contents_are_nested, unanswered_groups_add_nothing,

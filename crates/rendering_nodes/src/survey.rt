@@ -1,8 +1,11 @@
 //! What is asked of nodes before they are printed.
 
-ghost use Rattle.std.specs.Prelude.{◌≡◌, true};
-ghost use Rattle.rendering_nodes.specs.Admission.{nothing, both, words_survey, variable_survey, containing, group_survey};
+ghost use Rattle.std.specs.Prelude.{◌≡◌};
+ghost use Rattle.rendering_leaves.specs.Views.{form_view};
+ghost use Rattle.rendering_nodes.specs.Admission.{nothing, both, words_survey, variable_survey, containing, group_survey, substitute_answers, substitute_survey};
 ghost use Rattle.rendering_nodes.specs.Views.{survey_view};
+
+use rendering_leaves::SpecialForm;
 
 /// What is asked of nodes before they are printed.
 #[derive(Clone, Copy, Debug, PartialEq, Eq)]
@@ -89,12 +92,23 @@ impl Survey {
     }
 
     /// What is asked of the names whose substitute these nodes are.
-    pub(crate) fn of_substitute(self) -> Survey
-        ensures { survey_view result ≡ record (survey_view self) { calls = true } }
+    pub(crate) fn of_substitute(self, form: SpecialForm) -> Survey
+        ensures { survey_view result ≡ substitute_survey (form_view form) (survey_view self) }
     {
         Survey {
             calls: true,
+            is_answered: self.answers_as_substitute(form),
             ..self
+        }
+    }
+
+    /// Whether what stands for names is an answer: all that is printed of it, where names are printed alone.
+    fn answers_as_substitute(&self, form: SpecialForm) -> bool
+        ensures { result ≡ substitute_answers (form_view form) (survey_view self.now) }
+    {
+        match form {
+            SpecialForm::AuthorsAlone(_) => self.is_admitted,
+            _ => self.is_answered,
         }
     }
 

@@ -7,7 +7,7 @@ use Rattle.laws.specs.Text.{is_filled}
 use Rattle.rendering_taxonomy.specs.declared.formatting.Formatting.{Formatting}
 use Rattle.rendering_tree.specs.Tokens.{Token, letter, link, opening, closing, mark, unmark, with_letters, last_backwards}
 use Rattle.rendering_tree.specs.Views.{meta_view}
-use Rattle.rendering_page.specs.Joints.{Joining, all_joined, ends_by, is_left_out, is_stop, is_taken_inside, joining, joining_token, meeting, nothing_joined, with_bound, with_character, with_first, with_inside, with_quote, with_room, with_token}
+use Rattle.rendering_page.specs.Joints.{Joining, all_joined, ends_by, is_in_place, is_left_out, is_stop, is_taken_inside, joining, joining_token, meeting, nothing_joined, with_bound, with_character, with_first, with_inside, with_quote, with_room, with_token, without_last}
 use Rattle.rendering_page.specs.JoiningPieces.{is_bound, with_bounds, with_text}
 use Rattle.rendering_page.specs.Views.{words_view, with_piece, pieces_view}
 use Rattle.rendering_page.specs.declared.piece.Piece.{Piece}
@@ -97,40 +97,60 @@ meeting_is_text inside f c j =
     (if is_taken_inside inside c j then with_inside f c j else with_token (letter f c) true j) refl
     (either_text (is_taken_inside inside c j) (with_inside f c j) (with_token (letter f c) true j) (inside_is_text f c j) refl)
 
+first_is_text : (inside : Bool) (f : Formatting) (c : ℕ) (j : Joining) → (with_first inside f c j).is_text ≡ true
+first_is_text inside f c j =
+    either_text (is_in_place c j) (with_token (letter f c) true (without_last j)) (meeting inside f c (with_room c j)) refl (meeting_is_text inside f c (with_room c j))
+
 -- a text that begins
 pub text_begun : (inside : Bool) (f : Formatting) (cs ds : List ℕ) (c : ℕ) (j k : Joining) → cs ≡ c ∷ ds → j.is_text ≡ false → k ≡ with_text f ds (with_first inside f c j)
     → k ≡ joining inside (with_letters f cs []) j
 text_begun inside f cs ds c j k is none e =
     let one : with_character inside f c j ≡ with_first inside f c j = ap (λ b. if b then with_token (letter f c) true j else with_first inside f c j) none in
     e
-    ∙ sym (joining_letters inside f ds (letter f c ∷ []) j (ap (λ (i : Joining). i.is_text) one ∙ meeting_is_text inside f c (with_room c j)) ∙ ap (with_text f ds) one)
+    ∙ sym (joining_letters inside f ds (letter f c ∷ []) j (ap (λ (i : Joining). i.is_text) one ∙ first_is_text inside f c j) ∙ ap (with_text f ds) one)
     ∙ ap (λ xs. joining inside (with_letters f xs []) j) (sym is)
 
 -- what its first character comes to
-pub first_left_out : (inside : Bool) (f : Formatting) (c : ℕ) (cs : List ℕ) (j k l : Joining) → k ≡ with_room c j → ends_by (λ before. is_left_out before c) (last_backwards k.done) ≡ true
+first_placed : (b : Bool) (inside : Bool) (f : Formatting) (c : ℕ) (cs : List ℕ) (j : Joining) → is_in_place c j ≡ b
+    → with_text f cs (if b then with_token (letter f c) true (without_last j) else meeting inside f c (with_room c j)) ≡ with_text f cs (with_first inside f c j)
+first_placed b inside f c cs j e =
+    sym (ap (λ (p : Bool). with_text f cs (if p then with_token (letter f c) true (without_last j) else meeting inside f c (with_room c j))) e)
+
+pub first_in_place : (inside : Bool) (f : Formatting) (c : ℕ) (cs ds : List ℕ) (j l : Joining) → is_in_place c j ≡ true → ds ≡ c ∷ cs → l ≡ with_text f ds (without_last j)
+    → l ≡ with_text f cs (with_first inside f c j)
+first_in_place inside f c cs ds j l so is e =
+    e
+    ∙ ap (λ xs. with_text f xs (without_last j)) is
+    ∙ sym (more_of_text f c cs (without_last j))
+    ∙ first_placed true inside f c cs j so
+
+pub first_left_out : (inside : Bool) (f : Formatting) (c : ℕ) (cs : List ℕ) (j k l : Joining) → is_in_place c j ≡ false → k ≡ with_room c j → ends_by (λ before. is_left_out before c) (last_backwards k.done) ≡ true
     → l ≡ with_text f cs (record k { is_text = true }) → l ≡ with_text f cs (with_first inside f c j)
-first_left_out inside f c cs j k l room out e =
+first_left_out inside f c cs j k l other room out e =
     e
     ∙ sym (ap (λ b. with_text f cs (if b then record k { is_text = true } else if is_taken_inside inside c k then with_inside f c k else with_token (letter f c) true k)) out)
     ∙ ap (λ (i : Joining). with_text f cs (meeting inside f c i)) room
+    ∙ first_placed false inside f c cs j other
 
-pub first_inside : (inside : Bool) (f : Formatting) (c : ℕ) (cs : List ℕ) (j k l : Joining) → k ≡ with_room c j → ends_by (λ before. is_left_out before c) (last_backwards k.done) ≡ false
+pub first_inside : (inside : Bool) (f : Formatting) (c : ℕ) (cs : List ℕ) (j k l : Joining) → is_in_place c j ≡ false → k ≡ with_room c j → ends_by (λ before. is_left_out before c) (last_backwards k.done) ≡ false
     → is_taken_inside inside c k ≡ true → l ≡ with_text f cs (with_inside f c k) → l ≡ with_text f cs (with_first inside f c j)
-first_inside inside f c cs j k l room out taken e =
+first_inside inside f c cs j k l other room out taken e =
     e
     ∙ sym (ap (λ b. with_text f cs (if b then with_inside f c k else with_token (letter f c) true k)) taken)
     ∙ sym (ap (λ b. with_text f cs (if b then record k { is_text = true } else if is_taken_inside inside c k then with_inside f c k else with_token (letter f c) true k)) out)
     ∙ ap (λ (i : Joining). with_text f cs (meeting inside f c i)) room
+    ∙ first_placed false inside f c cs j other
 
-pub first_outside : (inside : Bool) (f : Formatting) (c : ℕ) (cs ds : List ℕ) (j k l : Joining) → k ≡ with_room c j → ends_by (λ before. is_left_out before c) (last_backwards k.done) ≡ false
+pub first_outside : (inside : Bool) (f : Formatting) (c : ℕ) (cs ds : List ℕ) (j k l : Joining) → is_in_place c j ≡ false → k ≡ with_room c j → ends_by (λ before. is_left_out before c) (last_backwards k.done) ≡ false
     → is_taken_inside inside c k ≡ false → ds ≡ c ∷ cs → l ≡ with_text f ds k → l ≡ with_text f cs (with_first inside f c j)
-first_outside inside f c cs ds j k l room out none is e =
+first_outside inside f c cs ds j k l other room out none is e =
     e
     ∙ ap (λ xs. with_text f xs k) is
     ∙ sym (more_of_text f c cs k)
     ∙ sym (ap (λ b. with_text f cs (if b then with_inside f c k else with_token (letter f c) true k)) none)
     ∙ sym (ap (λ b. with_text f cs (if b then record k { is_text = true } else if is_taken_inside inside c k then with_inside f c k else with_token (letter f c) true k)) out)
     ∙ ap (λ (i : Joining). with_text f cs (meeting inside f c i)) room
+    ∙ first_placed false inside f c cs j other
 
 -- the start or the end of something
 quoted_bound : (t : Token) (j : Joining) → j.is_quoted ≡ true → with_bound t j ≡ record j { held = t ∷ j.held; is_text = false }

@@ -84,16 +84,23 @@ with_inside f c j =
     then record j { is_text = true }
     else record j { done = letter f c ∷ j.done; is_text = true }
 
--- whether it takes the place of the one that it meets, or of a full stop that is equal, unless a close quote stands between them
-abbrev pub makes_room : Bool → ℕ → ℕ → Bool
-makes_room is_quoted before c =
-    is_replaced before c || (not is_quoted && (before == full_stop && c == full_stop))
+-- whether it is a full stop that takes the place of the one that it meets, unless a close quote stands between them
+abbrev pub takes_place : Bool → ℕ → ℕ → Bool
+takes_place is_quoted before c = not is_quoted && (before == full_stop && c == full_stop)
+
+-- whether a character is such a full stop after the last one of the text before it
+abbrev pub is_in_place : ℕ → Joining → Bool
+is_in_place c j = ends_by (λ before. takes_place j.is_quoted before c) (last_backwards j.done)
+
+-- without the last character
+abbrev pub without_last : Joining → Joining
+without_last j = record j { done = without_letters 1 j.done }
 
 -- without the character whose place another one takes
 abbrev pub with_room : ℕ → Joining → Joining
 with_room c j =
-    if ends_by (λ before. makes_room j.is_quoted before c) (last_backwards j.done)
-    then record j { done = without_letters 1 j.done }
+    if ends_by (λ before. is_replaced before c) (last_backwards j.done)
+    then without_last j
     else j
 
 -- a character after the last one of the text before it: a close quote does not stand between them
@@ -105,9 +112,12 @@ meeting inside f c j =
     then with_inside f c j
     else with_token (letter f c) true j
 
--- the first character of a text
+-- the first character of a text; of two full stops that meet the second one, whatever stands before the first
 abbrev pub with_first : Bool → Formatting → ℕ → Joining → Joining
-with_first inside f c j = meeting inside f c (with_room c j)
+with_first inside f c j =
+    if is_in_place c j
+    then with_token (letter f c) true (without_last j)
+    else meeting inside f c (with_room c j)
 
 -- a character of a text
 abbrev pub with_character : Bool → Formatting → ℕ → Joining → Joining

@@ -2,14 +2,14 @@
 
 ghost use Rattle.std.specs.Prelude.{◌≡◌, ◌∷◌, [], false, true, Bool, List, ℕ, IfOk, OnOk};
 ghost use Rattle.rendering_tree.specs.Tokens.{last_backwards, with_letters};
-ghost use Rattle.rendering_page.specs.Joints.{all_joined, ends_by, is_left_out, is_taken_inside, makes_room, joining, nothing_joined, with_first, with_inside, with_quote, with_room};
+ghost use Rattle.rendering_page.specs.Joints.{all_joined, ends_by, is_in_place, is_left_out, is_replaced, is_taken_inside, joining, nothing_joined, with_first, with_inside, with_quote, with_room, without_last};
 ghost use Rattle.rendering_page.specs.Joints as specs;
 ghost use Rattle.rendering_page.specs.JoiningPieces.{with_bounds, with_piece_alone, with_text};
 ghost use Rattle.rendering_page.specs.Views.{link_view, pieces_view, with_piece, words_view};
 
 use crate::appending::push_piece;
 use crate::cutting::cut;
-use crate::joints::{goes_inside, is_left_out, is_stop, makes_room};
+use crate::joints::{goes_inside, is_left_out, is_replaced, is_stop, takes_place};
 use crate::page_end::last_character;
 use crate::piece::{Link, Piece, Words};
 use rendering_taxonomy::Formatting;
@@ -146,6 +146,9 @@ impl<'a> Joining<'a> {
         ensures { (cs : List ℕ) → words_view words.entry ≡ first ∷ cs → OnOk result
             (self.new ≡ with_text formatting cs (with_first inside formatting first self.old)) }
     {
+        if self.takes_place(first) {
+            return self.put_in_place(formatting, words);
+        }
         self.make_room(first);
         if self.leaves_out(first) {
             return self.go_on(formatting, words);
@@ -153,6 +156,15 @@ impl<'a> Joining<'a> {
         if self.takes_inside(inside, first) {
             return self.go_inside(formatting, first, words);
         }
+        self.put_text(formatting, words)
+    }
+
+    /// A text of which the first character takes the place of the last one.
+    fn put_in_place(&mut self, formatting: Formatting, words: Words<'a>) -> Result<(), AllocError>
+        ensures { OnOk result (self.new
+            ≡ with_text formatting (words_view words.entry) (without_last self.old)) }
+    {
+        self.cut_last();
         self.put_text(formatting, words)
     }
 
@@ -186,22 +198,39 @@ impl<'a> Joining<'a> {
         inside && self.is_quoted && goes_inside(first)
     }
 
+    /// Whether a character is a full stop that takes the place of the last one.
+    fn takes_place(&self, first: char) -> bool
+        ensures { result ≡ is_in_place first self.now }
+    {
+        match last_character(&self.done) {
+            Some(before) => takes_place(self.is_quoted, before, first),
+            None => false,
+        }
+    }
+
     /// Cuts the last character whose place this one takes.
     fn make_room(&mut self, first: char)
         ensures { self.new ≡ with_room first self.old }
     {
         if self.is_replaced_by(first) {
-            cut(&mut self.done, 1);
+            self.cut_last();
         }
     }
 
-    /// Whether this character takes the place of the last one.
+    /// Cuts the last character.
+    fn cut_last(&mut self)
+        ensures { self.new ≡ without_last self.old }
+    {
+        cut(&mut self.done, 1);
+    }
+
+    /// Whether this character takes the place of the last one, which is another one.
     fn is_replaced_by(&self, first: char) -> bool
-        ensures { result ≡ ends_by (λ before. makes_room self.now.is_quoted before first)
-            (last_backwards self.now.done) }
+        ensures { result
+            ≡ ends_by (λ before. is_replaced before first) (last_backwards self.now.done) }
     {
         match last_character(&self.done) {
-            Some(before) => makes_room(self.is_quoted, before, first),
+            Some(before) => is_replaced(before, first),
             None => false,
         }
     }

@@ -33,11 +33,11 @@ pub fn is_replaced(before: char, c: char) -> bool
     }
 }
 
-/// Whether it takes the place of the one that it meets, or of a full stop that is equal, unless a close quote stands between them.
-pub(crate) fn makes_room(is_quoted: bool, before: char, c: char) -> bool
-    ensures { result ≡ specs.makes_room is_quoted before c }
+/// Whether it is a full stop that takes the place of the one that it meets, unless a close quote stands between them.
+pub(crate) fn takes_place(is_quoted: bool, before: char, c: char) -> bool
+    ensures { result ≡ specs.takes_place is_quoted before c }
 {
-    is_replaced(before, c) || (!is_quoted && before == '.' && c == '.')
+    !is_quoted && before == '.' && c == '.'
 }
 
 /// The punctuation that goes inside quotes.

@@ -38,6 +38,7 @@ key_setting inherited k = record {
   options = key_options inherited k;
   in_substitute = false;
   form = whole;
+  outer_names = None;
 }
 
 -- the characters that nodes print whose macros are opened

@@ -158,6 +158,7 @@ fn key_setting<'a>(key: &SortKey, layout: &ResolvedNameOptions<'a>) -> NodeSetti
         options: key_options(key, layout),
         in_substitute: false,
         form: SpecialForm::Whole,
+        outer_names: None,
     }
 }
 

@@ -48,6 +48,7 @@ pub record Citation : Type 0 where
   pub suffixes_by_number : Bool
   pub raises_names_first : Bool
   pub gathers_by_text : Bool
+  pub locators_end_runs : Bool
 
 -- cites that are not disambiguated, not gathered and not collapsed
 abbrev pub plain_citation : Layout → Citation
@@ -69,6 +70,7 @@ plain_citation l = record {
   suffixes_by_number = false;
   raises_names_first = false;
   gathers_by_text = false;
+  locators_end_runs = false;
 }
 
 -- how the items of a bibliography are printed

@@ -244,6 +244,7 @@ citation_layout_view c = record {
   suffixes_by_number = c.suffixes_by_number;
   raises_names_first = c.raises_names_first;
   gathers_by_text = c.gathers_by_text;
+  locators_end_runs = c.locators_end_runs;
 }
 
 -- what is specified for the bibliography

@@ -47,7 +47,8 @@ pub struct Citation {
     pub near_note_distance: u32,
     /// Whether the first of alike cites takes the branch for alike ones too.
     pub first_chooses_too: bool,
-    /// Whether only a citation of one cite is repeated by ibid.
+    /// Whether only a citation of one cite is repeated by ibid, and a cite that repeats the one before it and prints neither people nor a
+    /// date is alike to no other.
     pub ibid_after_one: bool,
     /// Whether names are compared with those of other entries alone.
     pub same_entry_is_no_rival: bool,
@@ -55,8 +56,10 @@ pub struct Citation {
     pub suffixes_by_number: bool,
     /// Whether given names are added by the rule before cites are compared.
     pub raises_names_first: bool,
-    /// Whether cites are gathered by what their names print, and not also by whom they name.
+    /// Whether cites are gathered whose names print the same text of the same people, whoever they leave out.
     pub gathers_by_text: bool,
+    /// Whether a cite with a locator stands in no run of numbers.
+    pub locators_end_runs: bool,
 }
 
 impl Citation {
@@ -86,6 +89,7 @@ impl Citation {
             suffixes_by_number: false,
             raises_names_first: false,
             gathers_by_text: false,
+            locators_end_runs: false,
         }
     }
 }

@@ -27,6 +27,7 @@ setting_begun = record {
   options = not_overriding open_options;
   in_substitute = false;
   form = whole;
+  outer_names = None;
 }
 
 -- what was appended as it stands on a page

@@ -219,6 +219,7 @@ fn plain_setting<'a>() -> NodeSetting<'a>
         options: nothing_around(),
         in_substitute: false,
         form: SpecialForm::Whole,
+        outer_names: None,
     }
 }
 

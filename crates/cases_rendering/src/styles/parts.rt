@@ -122,6 +122,7 @@ fn citation_in(session: &mut Session, given: &Value<'_>) -> Citation {
         suffixes_by_number: false,
         raises_names_first: false,
         gathers_by_text: false,
+        locators_end_runs: false,
     }
 }
 

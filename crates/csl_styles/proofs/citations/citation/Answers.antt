@@ -20,4 +20,5 @@ returns c = λ j. record {
   suffixes_by_number = true;
   raises_names_first = c.raises_names_first.ensures j;
   gathers_by_text = true;
+  locators_end_runs = c.args.prints_locators;
 }

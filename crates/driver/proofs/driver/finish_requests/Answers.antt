@@ -14,13 +14,13 @@ use Rattle.driver.specs.Listing.{keys_first, rendered_of}
 use Rattle.driver.specs.RenderedViews.{keys_view, rendered_view}
 use Rattle.driver_rounds.specs.Naming.{states_by}
 use Rattle.driver_rounds.specs.Rounding.{AreWithin, round_states_view}
-use Rattle.driver_rounds.specs.FirstPrints.{first_rule, flattened}
+use Rattle.driver_rounds.specs.FirstPrints.{first_naming, flattened}
 use Rattle.driver_rounds.specs.Views.{document_view, all_numbered_cites_view}
 use Rattle.driver_rounds.specs.declared.cite.NumberedCite.{NumberedCite}
 use Rattle.driver_rounds.proofs.NamingSteps.{named_lengths, named_within}
 use Rattle.driver.specs.declared.rendered.Rendered.{Rendered}
 use Rattle.driver.proofs.FinishRequests.{cites_known, cites_within, finish_known, keys_known, suffixes_fail, many_cited, named_given, order_within, prints_known}
-use Rattle.driver.proofs.FinishStages.{back_gives, effort_is, named_many, rule_alike, runs_many}
+use Rattle.driver.proofs.FinishStages.{back_gives, effort_is, named_many, naming_alike, runs_many}
 use Rattle.driver.proofs.driver.finish_requests.Goals as goal
 
 pub returns-in_err-entry_states-clause-rendered : goal.returns-in_err-entry_states-clause-rendered
@@ -132,7 +132,7 @@ returns-clause-effort g c =
     IfOk-weaker c.render.result
     (λ (r : Rendered). r.effort ≤ c.disambiguated.new.effort + cites + option_map_or (λ s. length c.deref-5.result.now) d.bibliography_context.style.bibliography 0)
     (λ (r : Rendered). r.effort ≤ effort_bound d)
-    (λ r h. effort_is d c.deref-5.result.now (first_rule (map (request_view {P = g.row.P.Denot} (λ e. 0) answers) rs)) _ c.first_states.new.effort c.first_prints.new.effort c.disambiguated.new.effort r.effort
+    (λ r h. effort_is d c.deref-5.result.now (first_naming (map (request_view {P = g.row.P.Denot} (λ e. 0) answers) rs)) _ c.first_states.new.effort c.first_prints.new.effort c.disambiguated.new.effort r.effort
     (length (flattened (all_numbered_cites_view answers rs c.deref-2.result.now))) cites cites cites c.default-effort.ensures before count count count (ap length c.deref-5.ensures.value ∙ c.in_ok-known.ensures.length ∙ sym many)
-    (rule_alike answers (λ e. 0) (index_among g.T.PartialEq.eq (entries_in rs)) rs) c.in_ok-states.ensures.effort c.in_ok-first.ensures.effort c.in_ok-entry_states.ensures.effort h)
+    (naming_alike answers (λ e. 0) (index_among g.T.PartialEq.eq (entries_in rs)) rs) c.in_ok-states.ensures.effort c.in_ok-first.ensures.effort c.in_ok-entry_states.ensures.effort h)
     c.render.ensures.effort

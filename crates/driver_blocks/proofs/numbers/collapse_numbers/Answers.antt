@@ -1,14 +1,19 @@
-use Rattle.std.proofs.Common.{rules, refl}
-use Rattle.std.proofs.lemmas.List.Sorted.{answers_always}
-use Rattle.driver_blocks.specs.Collapsing.{is_next_number}
+use Rattle.std.proofs.Common.{◌≡◌, Bool, IfOk, map, sym, subst, Vec}
+use Rattle.std.specs.Global.{Global}
+use Rattle.rendering_style.specs.Styles.{Citation}
+use Rattle.driver_blocks.specs.Collapsing.{is_next_number, runs_collapsed}
 use Rattle.driver_blocks.specs.Views.{arranged_view}
-use Rattle.driver_blocks.proofs.RunsCut.{mapped_cut}
-use Rattle.driver_blocks.proofs.RunsSteps.{numbers_go_on}
+use Rattle.driver_blocks.specs.declared.cite.Arranged.{Arranged}
 use Rattle.driver_blocks.proofs.numbers.collapse_numbers.Goals as goal
 
-pub loop-run-preserved : goal.loop-run-preserved
-loop-run-preserved c = λ s.
-    let steps = c.in-Some.ensures.steps in
-    let split = mapped_cut (arranged_view s) is_next_number c.loop-run.run-iterator.rest.now c.in-Some.run'.now c.next.new.self.rest.now steps.0 steps.1
-    (steps.2 (λ a b. is_next_number (arranged_view s a) (arranged_view s b)) (answers_always _ _ _ (λ f a r g h. search rules))).1 in
-    numbers_go_on s c.loop-run.is_after _ c.in-Some.run'.now _ _ _ _ _ split (c.loop-run.invariant s) (c.in_ok-push_numbers.ensures s) refl
+pub returns-then-locators_end_runs : goal.returns-then-locators_end_runs
+returns-then-locators_end_runs c =
+    subst (λ (b : Bool). IfOk c.collapse_without_locators.result (λ (v : Vec Arranged Global). (s : Citation) → map (arranged_view s) v.items ≡ runs_collapsed s (is_next_number b) (map (arranged_view s) c.args.cites.now)))
+    (sym c.if-locators_end_runs.true)
+    c.collapse_without_locators.ensures
+
+pub returns-else-locators_end_runs : goal.returns-else-locators_end_runs
+returns-else-locators_end_runs c =
+    subst (λ (b : Bool). IfOk c.collapse_with_locators.result (λ (v : Vec Arranged Global). (s : Citation) → map (arranged_view s) v.items ≡ runs_collapsed s (is_next_number b) (map (arranged_view s) c.args.cites.now)))
+    (sym c.if-locators_end_runs.false)
+    c.collapse_with_locators.ensures

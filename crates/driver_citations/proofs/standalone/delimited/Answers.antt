@@ -22,8 +22,8 @@ loop-tree-preserved c =
     let rest = into_iter_items c.next.new.self in
     let steps : into_iter_items c.loop-tree.tree-iterator ≡ c.in-Some.tree ∷ rest = c.in-Some.ensures.steps.0 in
     record {
-      same = tree_put (option_map (λ q. quotes_view q.now) c.args.quotes) c.args.look (chars c.args.between.now) c.loop-tree.is_first (tree_view c.loop-tree.inside) (tree_view c.push_between.new.inside) (tree_view c.append.new.parts) _ c.in-Some.tree rest
-          (into_iter_items c.loop-tree.tree-iterator) steps c.loop-tree.invariant.same c.in_ok-push_between.ensures c.in_ok-append.ensures;
+      same = tree_put (option_map (λ q. quotes_view q.now) c.args.quotes) c.args.look (chars c.args.between.now) (chars c.delimiter_before.result.now) c.loop-tree.is_first (tree_view c.loop-tree.inside) (tree_view c.push_between.new.inside) (tree_view c.append.new.parts) _ c.in-Some.tree rest
+          (into_iter_items c.loop-tree.tree-iterator) steps c.delimiter_before.ensures c.loop-tree.invariant.same c.in_ok-push_between.ensures c.in_ok-append.ensures;
       long = omega (arith, c.loop-tree.invariant.long, ap length steps, c.in-Some.ensures.steps.1);
     }
 

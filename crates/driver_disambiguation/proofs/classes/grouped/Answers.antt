@@ -16,9 +16,9 @@ loop-index-preserved c =
     let is : p ≡ get_or (zip ns ss) i p = beside_at ns ss i s c.loop-index-test.true c.requires.len c.index-cites-index.is in
     let old = c.loop-index.members.items in
     record {
-      members = λ n. members_step (zip ns ss) i p c.allows_suffix-is_wanted.result _ n (under old n) (under c.add_where.new.members.items n) low is c.allows_suffix-is_wanted.ensures refl (c.loop-index.invariant.members n)
+      members = λ n. members_step (zip ns ss) i p c.may_be_alike-is_wanted.result _ n (under old n) (under c.add_where.new.members.items n) low is c.may_be_alike-is_wanted.ensures refl (c.loop-index.invariant.members n)
           (c.in_ok-add_where.ensures.members n);
-      shared = seconds_step (zip ns ss) i p c.allows_suffix-is_wanted.result (under old p.0) _ _ low is c.allows_suffix-is_wanted.ensures (c.loop-index.invariant.members p.0) c.loop-index.invariant.shared
+      shared = seconds_step (zip ns ss) i p c.may_be_alike-is_wanted.result (under old p.0) _ _ low is c.may_be_alike-is_wanted.ensures (c.loop-index.invariant.members p.0) c.loop-index.invariant.shared
           c.in_ok-add_where.ensures.shared;
       many = c.add_where.ensures.len ∙ c.loop-index.invariant.many;
     }

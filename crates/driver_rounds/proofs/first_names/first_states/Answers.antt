@@ -1,20 +1,14 @@
-use Rattle.std.proofs.Common.{◌+◌, ◌≤◌, sym, ap, subst, ◌∙◌, arith, Option}
+use Rattle.std.proofs.Common.{◌+◌, ◌≤◌, ap, subst, ◌∙◌}
 use Rattle.driver_rounds.specs.CitesInStep.{all_cites, cites_count}
 use Rattle.driver_rounds.specs.FirstPrints as first
+use Rattle.driver_rounds.specs.FirstPrints.{FirstNaming}
 use Rattle.driver_rounds.specs.Naming.{first_effort}
-use Rattle.rendering_taxonomy.specs.declared.style.DisambiguationRule.{DisambiguationRule}
 use Rattle.driver_rounds.proofs.first_names.first_states.Goals as goal
 
-pub returns-in_ok-states_by-in-Some-clause-states : goal.returns-in_ok-states_by-in-Some-clause-states
-returns-in_ok-states_by-in-Some-clause-states g c =
-    c.in_ok-states_by-in-Some.ensures.states ∙ ap (λ o. first.first_states o c.args.entries (all_cites g.T.EntryLike.answers c.args.cites)) (sym c.in-Some.is ∙ c.first_rule.ensures)
+pub returns-clause-states : goal.returns-clause-states
+returns-clause-states g c =
+    c.in_ok-states.ensures.states ∙ ap (λ (n : FirstNaming). first.first_states n c.args.entries (all_cites g.T.EntryLike.answers c.args.cites)) c.first_naming-naming.ensures
 
-pub returns-in_ok-states_by-in-Some-clause-effort : goal.returns-in_ok-states_by-in-Some-clause-effort
-returns-in_ok-states_by-in-Some-clause-effort g c =
-    subst (λ (o : Option DisambiguationRule). c.states_by.new.effort ≤ c.args.effort.now + first_effort o (cites_count g.T.EntryLike.answers c.args.cites)) (sym c.in-Some.is ∙ c.first_rule.ensures) c.in_ok-states_by-in-Some.ensures.effort
-
-pub returns-in-None-clause-states : goal.returns-in-None-clause-states
-returns-in-None-clause-states g c = ap (λ o. first.first_states o c.args.entries (all_cites g.T.EntryLike.answers c.args.cites)) (sym c.in-None.is ∙ c.first_rule.ensures)
-
-pub returns-in-None-clause-effort : goal.returns-in-None-clause-effort
-returns-in-None-clause-effort g c = omega arith
+pub returns-clause-effort : goal.returns-clause-effort
+returns-clause-effort g c =
+    subst (λ (n : FirstNaming). c.states_by_naming.new.effort ≤ c.args.effort.now + first_effort n (cites_count g.T.EntryLike.answers c.args.cites)) c.first_naming-naming.ensures c.in_ok-states.ensures.effort

@@ -13,4 +13,5 @@ returns-clause-printed g c =
     let p = styled_view g.T.EntryLike.answers c.args.cite in
     c.in_ok-printed.ensures
     ∙ c.new-candidate.ensures (λ state. (printed_by p state).tree) undisambiguated (tree_view c.in_ok-first.first.tree)
-    ∙ printed_undisambiguated_is p c.has_suffix_date.result (citation_layout_view c.args.style.now) (rendering_view c.in_ok-first.first) c.has_suffix_date.ensures c.requires c.in_ok-first.ensures.prints
+    ∙ printed_undisambiguated_is p c.has_suffix_date.result (citation_layout_view c.args.style.now) c.repeats.result c.in_ok-names.names (rendering_view c.in_ok-first.first) c.has_suffix_date.ensures c.requires c.repeats.ensures
+    c.in_ok-names.ensures c.in_ok-first.ensures.prints

@@ -56,7 +56,7 @@ returns-clause-entry_states g c =
     let viewed : c.deref-2.result.now ≡ c.update_states.new.states = c.deref-2.ensures.value ∙ filled in
     let again_are : printed_cites_view c.print_again.new.printed ≡ are_again (map state_view c.update_states.new.states) c.in_ok-is_given.is_given.items ns (printed_cites_view c.args.entry_states.now.printed) =
     c.in_ok-print_again.ensures.printed ∙ (λ j. are_again (map state_view (viewed j)) (c.deref-3.ensures.value j) ns (printed_cites_view c.args.entry_states.now.printed)) in
-    round_given_is c.args.adds_names c.args.round ns old (printed_cites_view c.args.entry_states.now.printed) (printed_cites_view c.print_again.new.printed) (given_states_view c.in_ok-given.given.items) (given_states_view c.append.new.given.items) (map state_view c.update_states.new.states)
+    round_given_is c.args.adds_names c.args.round ns old (printed_cites_view c.args.entry_states.now.printed) (printed_cites_view c.print_again.new.printed) (given_states_view c.in_ok-given.given.items) (given_states_view c.append_given.new.given.items) (map state_view c.update_states.new.states)
     c.in_ok-is_given.is_given.items c.requires.printed c.in_ok-given.ensures c.requires.given
-    (subst Q (sym (length-map items state_view)) (runs_within g.T.EntryLike.answers (length items) c.args.cites.requests.now c.args.cites.runs.now c.requires.within)) states_are given_are again_are c.in_ok-append.ensures
-    ∙ (λ j. Ok (record { states = map state_view (sym filled j); given = given_states_view c.append.new.given.items }, printed_cites_view c.print_again.new.printed))
+    (subst Q (sym (length-map items state_view)) (runs_within g.T.EntryLike.answers (length items) c.args.cites.requests.now c.args.cites.runs.now c.requires.within)) states_are given_are again_are c.in_ok-append_given.ensures
+    ∙ (λ j. Ok (record { states = map state_view (sym filled j); given = given_states_view c.append_given.new.given.items }, printed_cites_view c.print_again.new.printed))

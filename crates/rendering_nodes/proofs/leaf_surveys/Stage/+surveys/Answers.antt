@@ -195,11 +195,14 @@ survey_names-returns-then-branch g t c =
 pub survey_names-returns-then-is_shut_out : goal.survey_names-returns-then-is_shut_out
 survey_names-returns-then-is_shut_out g t c =
     names_shut_out (stage_view (g.E.EntryLike.answers c.args.entry.now) c.args.self.now) c.args.findings.now.items (survey_view c.of_variable-then-is_shut_out.result) (names_node_view c.args.names.now)
-    (each_node (open_node c.args.levels (macros_of c.args.self.now.walk.now)) (nodes_view c.args.substitute.now)) c.in_ok-has_people.field-0 c.in_ok-is_shut_out.is_shut_out
-    c.in_ok-has_people.ensures c.if-branch.false c.in_ok-is_shut_out.ensures c.if-is_shut_out.true c.of_variable-then-is_shut_out.ensures
+    (each_node (open_node c.args.levels (macros_of c.args.self.now.walk.now)) (nodes_view c.args.substitute.now)) c.in_ok-has_people.field-0 c.is_shut_out-is_shut_out.result
+    c.in_ok-has_people.ensures c.if-branch.false c.is_shut_out-is_shut_out.ensures c.if-is_shut_out.true c.of_variable-then-is_shut_out.ensures
 
 pub survey_names-returns : goal.survey_names-returns
 survey_names-returns g t c =
-    names_substituted (stage_view (g.E.EntryLike.answers c.args.entry.now) c.args.self.now) c.args.findings.now.items c.survey_all.new.findings.items (survey_view c.of_substitute.result) (survey_view c.in_ok-inside.inside) (names_node_view c.args.names.now)
-    (each_node (open_node c.args.levels (macros_of c.args.self.now.walk.now)) (nodes_view c.args.substitute.now)) c.in_ok-has_people.field-0 c.in_ok-is_shut_out.is_shut_out
-    c.in_ok-has_people.ensures c.if-branch.false c.in_ok-is_shut_out.ensures c.if-is_shut_out.false c.of_substitute.ensures c.in_ok-inside.ensures
+    let a = g.E.EntryLike.answers c.args.entry.now in
+    names_substituted (stage_view a c.args.self.now) c.args.findings.now.items c.survey_all.new.findings.items (survey_view c.of_substitute.result) (survey_view c.in_ok-inside.inside) (names_node_view c.args.names.now)
+    (each_node (open_node c.args.levels (macros_of c.args.self.now.walk.now)) (nodes_view c.args.substitute.now)) c.in_ok-has_people.field-0 c.is_shut_out-is_shut_out.result
+    c.in_ok-has_people.ensures c.if-branch.false c.is_shut_out-is_shut_out.ensures c.if-is_shut_out.false c.of_substitute.ensures
+    (c.in_ok-inside.ensures
+    ∙ (λ i. all_asked (c.in_substitute_of-stage.ensures.stage a i) c.args.findings.now.items (each_node (open_node c.args.levels (c.in_substitute_of-stage.ensures.macros i)) (nodes_view c.args.substitute.now))))

@@ -1,11 +1,12 @@
-use Rattle.std.proofs.Common.{◌≡◌, ℕ, ◌+◌, ◌-◌, suc, not, ◌&&◌, map, drop, List, refl, sym, ap, ◌∙◌, rules}
+use Rattle.std.proofs.Common.{◌≡◌, ℕ, ◌+◌, ◌-◌, suc, not, ◌&&◌, map, drop, List, refl, sym, subst, ap, ◌∙◌, rules}
 use Rattle.std.specs.Option.{option_map}
 use Rattle.std.proofs.lemmas.Result.{IfOk-weaker, on_ok_weaker}
 use Rattle.rendering_leaves.specs.NodeSettings.{NodeSetting, State}
 use Rattle.rendering_leaves.specs.Views.{setting_view}
 use Rattle.rendering_names.specs.Views.{names_parts_view}
-use Rattle.rendering_nodes.specs.Content.{append_people}
-use Rattle.rendering_nodes.specs.Findings.{AreFoundInside}
+use Rattle.rendering_nodes.specs.Admission.{substitute_form}
+use Rattle.rendering_nodes.specs.Content.{append_people, inside_names, substituted_names}
+use Rattle.rendering_nodes.specs.Findings.{AreFound, AreFoundInside}
 use Rattle.rendering_nodes.specs.Turns.{substituted}
 use Rattle.rendering_nodes.specs.Views.{macros_of, walk_context}
 use Rattle.rendering_page.specs.Views.{frame_view}
@@ -16,11 +17,12 @@ use Rattle.rendering_style.specs.Views.{branch_view, branches_of, group_node_vie
 use Rattle.rendering_style.specs.declared.node.ChooseBranch.{ChooseBranch}
 use Rattle.rendering_style.specs.declared.node.Node.{Node}
 use Rattle.rendering_style.specs.declared.node.TextTarget.{TextTarget}
+use Rattle.rendering_taxonomy.specs.declared.variable.NameVariable.{NameVariable}
 use Rattle.rendering_nodes.proofs.ContentSteps.{and_else, and_then, choose_appended, contents_more, delimited_by, delimited_in, delimited_on, next_admitted, next_passed, substitute_more}
 use Rattle.rendering_nodes.proofs.FindingsAppended.{form_as, inside_as, known_more, macro_as, macro_some, substitutes_as, taken_as}
 use Rattle.rendering_nodes.proofs.OpenedSteps.{open_text, open_names, open_choose, open_group}
 use Rattle.rendering_nodes.proofs.OpenedAppended.{names_node_appended, choose_node_appended, group_node_appended, macro_appended, grouped_appended}
-use Rattle.rendering_nodes.proofs.SubstituteSteps.{names_by, names_without, names_with, substitute_passed, substitute_tried, is_substitute_passed, is_substitute_tried, substituted_by, tried_by}
+use Rattle.rendering_nodes.proofs.SubstituteSteps.{names_by, names_without, names_with, substitute_passed, substitute_tried, is_substitute_passed, is_substitute_tried, substituted_by, taken_variables, tried_by}
 use Rattle.rendering_nodes.proofs.style_walk.Walk.+contents.Goals.{push_all-then-is_first, push_all-else-is_first}
 use Rattle.rendering_nodes.proofs.style_walk.Walk.+contents.Goals as goal
 
@@ -33,8 +35,8 @@ push_node-returns-in-Names g t c =
     names_node_appended c.push_names.result k outer s c.args.state.now c.push_names.new.state c.args.levels ms c.args.node.now c.in-Names.names c.in-Names.substitute c.deref.result.now
     c.if-levels-eq0.false c.in-Names.is c.deref.ensures.value
     (on_ok_weaker c.push_names.result
-    (names_by k outer s (names_node_view c.in-Names.names) (names_parts_view c.taken-parts.result) (each_node (open_node (c.args.levels - 1) ms) (nodes_view c.deref.result.now))
-    c.args.state.now c.push_names.new.state c.taken-parts.ensures)
+    (names_by k outer s (names_node_view c.in-Names.names) (names_parts_view c.taken_around-parts.result) (each_node (open_node (c.args.levels - 1) ms) (nodes_view c.deref.result.now))
+    c.args.state.now c.push_names.new.state c.taken_around-parts.ensures)
     c.push_names.ensures)
 
 pub push_node-returns-in-Choose : goal.push_node-returns-in-Choose
@@ -105,7 +107,7 @@ push_substitute-returns g t c =
     on_ok_weaker c.end_names.result
     (substituted_by (walk_context a c.args.self.now) (setting_view c.args.setting.now) (setting_view c.inside_names-inside.result) (names_parts_view c.args.names.now)
     (each_node (open_node c.args.levels (macros_of c.args.self.now)) (nodes_view c.args.substitute.now)) c.args.state.now c.begin_names.new.state c.push_first.new.state c.end_names.new.state
-    c.inside_names-inside.ensures (c.in_ok-begin_names.ensures a) c.in_ok-push_first.ensures)
+    (c.inside_names-inside.ensures (each_node (open_node c.args.levels (macros_of c.args.self.now)) (nodes_view c.args.substitute.now)) c.substitute_form-form.ensures) (c.in_ok-begin_names.ensures a) c.in_ok-push_first.ensures)
     (c.end_names.ensures a)
 
 pub push_tried-returns-clause-state : goal.push_tried-returns-clause-state
@@ -133,11 +135,19 @@ pub push_node-push_names-requires : goal.push_node-push_names-requires
 push_node-push_names-requires g t c =
     let ms = macros_of c.args.self.now in
     let f = open_node (c.args.levels - 1) ms in
-    let known = substitutes_as (walk_context (g.E.EntryLike.answers c.args.entry.now) c.args.self.now) (setting_view c.args.setting.now).form c.args.findings (names_node_view c.in-Names.names) (each_node f (nodes_view c.deref.result.now))
+    let known = substitutes_as (walk_context (g.E.EntryLike.answers c.args.entry.now) c.args.self.now) (setting_view c.args.setting.now).form c.args.findings (names_node_view c.in-Names.names) (names_parts_view c.taken_around-parts.result).variables (each_node f (nodes_view c.deref.result.now))
     (open_node c.args.levels ms (node_view c.args.node.now))
     (ap (λ (y : Node). open_node c.args.levels ms (node_view y)) c.in-Names.is ∙ open_names c.args.levels ms c.in-Names.names c.in-Names.substitute c.if-levels-eq0.false
     ∙ ap (λ (xs : List Node). nodes.names (names_node_view c.in-Names.names) (each_node f (nodes_view xs))) (sym c.deref.ensures.value))
+    (ap (λ (h : nodes.NamesNode). h.variables) c.taken_around-parts.ensures ∙ taken_variables (substituted_names c.args.self.now.context.is_published (option_map (λ n. names_parts_view n.now) c.args.outer) (setting_view c.args.setting.now)) (names_node_view c.in-Names.names))
     c.requires in
+    search rules
+
+pub push_names-push_substitute-requires : goal.push_names-push_substitute-requires
+push_names-push_substitute-requires g t c =
+    let known = subst (λ (vs : List NameVariable). AreFound (walk_context (g.E.EntryLike.answers c.args.entry.now) c.args.self.now) (substitute_form (setting_view c.args.setting.now).form vs (each_node (open_node c.args.levels (macros_of c.args.self.now)) (nodes_view c.args.substitute.now))) c.args.findings
+    (each_node (open_node c.args.levels (macros_of c.args.self.now)) (nodes_view c.args.substitute.now)))
+    (sym (ap (λ (h : nodes.NamesNode). h.variables) c.names_in-own.ensures)) c.requires in
     search rules
 
 pub push_node-push_choose-requires : goal.push_node-push_choose-requires
@@ -192,8 +202,9 @@ push_group-push_all-requires g t c =
 
 pub push_substitute-push_first-requires : goal.push_substitute-push_first-requires
 push_substitute-push_first-requires g t c =
-    let known = form_as (walk_context (g.E.EntryLike.answers c.args.entry.now) c.args.self.now) (setting_view c.args.setting.now) (setting_view c.inside_names-inside.result) c.args.findings
-    (each_node (open_node c.args.levels (macros_of c.args.self.now)) (nodes_view c.args.substitute.now)) (ap (λ (i : NodeSetting). i.form) c.inside_names-inside.ensures) c.requires in
+    let known = form_as (walk_context (g.E.EntryLike.answers c.args.entry.now) c.args.self.now) (inside_names (setting_view c.args.setting.now) (names_parts_view c.args.names.now) (each_node (open_node c.args.levels (macros_of c.args.self.now)) (nodes_view c.args.substitute.now))) (setting_view c.inside_names-inside.result) c.args.findings
+    (each_node (open_node c.args.levels (macros_of c.args.self.now)) (nodes_view c.args.substitute.now))
+    (ap (λ (i : NodeSetting). i.form) (c.inside_names-inside.ensures (each_node (open_node c.args.levels (macros_of c.args.self.now)) (nodes_view c.args.substitute.now)) c.substitute_form-form.ensures)) c.requires in
     search rules
 
 pub push_choose-push_all-requires : goal.push_choose-push_all-requires
