@@ -71,8 +71,8 @@ class Outputs:
 
 
 def tidy(text):
-    """A text without spaces at its ends, and with one space where lines meet."""
-    return re.sub(r" *\n[ \n]*", " ", text.strip(" \n"))
+    """A text in one line, with one space where lines meet."""
+    return re.sub(r" *\n[ \n]*", " ", text.strip("\n"))
 
 
 def shown(part):
@@ -90,6 +90,11 @@ def shown(part):
     if kind in LOOKS:
         return shown(inside)
     raise ValueError(f"pandoc: {kind}")
+
+
+def written(part):
+    """The same as pandoc writes it: spaces at its end are left out."""
+    return shown(part).rstrip(" \n")
 
 
 class Runs:
@@ -125,8 +130,8 @@ class Runs:
         page = answered.run("pandoc", document, "--citeproc", "--csl", style.path, "--bibliography", data, "-t", "json")
         blocks = json.loads(page)["blocks"]
         items = [item for block in blocks if block["t"] == "Div" for item in block["c"][1]]
-        citations = [shown(block) for block in blocks if block["t"] == "Para"]
-        return Outputs(citations, {item["c"][0][0].removeprefix("ref-"): shown(item) for item in items})
+        citations = [written(block) for block in blocks if block["t"] == "Para"]
+        return Outputs(citations, {item["c"][0][0].removeprefix("ref-"): written(item) for item in items})
 
     def compared(self, style):
         """All outputs, with pandoc's from our answers and from the file; none where a program refuses the style."""

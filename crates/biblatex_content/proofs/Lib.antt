@@ -14,3 +14,4 @@ pub mod WritingPieces
 pub mod TidyPrefixes
 pub mod TidyRests
 pub mod VerbatimLiteral
+pub mod NamesApart

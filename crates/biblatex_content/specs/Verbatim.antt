@@ -40,3 +40,7 @@ verbatim_text cs = verbatim_from false cs
 -- whether the field of that name, in lower case, is read verbatim
 abbrev pub is_verbatim_name : List ℕ → Bool
 is_verbatim_name name = list_any (bytes_eq name) (codes "file" ∷ codes "doi" ∷ codes "uri" ∷ codes "eprint" ∷ codes "verba" ∷ codes "verbb" ∷ codes "verbc" ∷ codes "pdf" ∷ codes "url" ∷ codes "urlraw" ∷ [])
+
+-- whether the byte is the third one of such a name: f, i, l or r
+abbrev pub is_third_of_verbatim : ℕ → Bool
+is_third_of_verbatim b = b == 102 || b == 105 || b == 108 || b == 114

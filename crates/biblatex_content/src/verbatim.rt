@@ -5,11 +5,12 @@ ghost use Rattle.std.specs.Str.{chars, str_to_ascii_lowercase};
 ghost use Rattle.laws.specs.Characters.{backslash};
 ghost use Rattle.biblatex_content.specs.declared.chunk.Kind.TheVariants.{Verbatim};
 ghost use Rattle.biblatex_content.specs.Styled.{letters};
-ghost use Rattle.biblatex_content.specs.Verbatim.{is_brace, is_escapable, verbatim_piece, is_verbatim_escape, verbatim_text, is_verbatim_name};
+ghost use Rattle.biblatex_content.specs.Verbatim.{is_brace, is_escapable, verbatim_piece, is_third_of_verbatim, is_verbatim_escape, verbatim_text, is_verbatim_name};
 ghost use Rattle.biblatex_content.specs.Views.{joined, styled};
 
 use crate::chunk::{Chunks, Kind};
 use crate::joining::Joining;
+use crate::names::third_byte;
 use std::alloc::{AllocError, Global};
 
 /// Whether a backslash before the character stands for the character: in an ordinary field before `{ } # & % $ _`; in a
@@ -27,14 +28,32 @@ pub fn is_escapable(c: char, verb: bool, read_char: bool) -> bool
 }
 
 /// Whether the field of that name is read verbatim: `file`, `doi`, `uri`, `eprint`, `verba`, `verbb`, `verbc`, `pdf`,
-/// `url` and `urlraw`. The name is in lower case.
+/// `url` and `urlraw`. The name is in lower case. The third byte of most names says that they are none of these.
 pub fn is_verbatim_field(key: &str) -> bool
+    ensures { result ≡ is_verbatim_name key.now }
+{
+    if !is_third_of_verbatim(third_byte(key)) {
+        return false;
+    }
+    is_one_of_verbatim(key)
+}
+
+/// The same of any name.
+fn is_one_of_verbatim(key: &str) -> bool
     ensures { result ≡ is_verbatim_name key.now }
 {
     matches!(
         key,
         "file" | "doi" | "uri" | "eprint" | "verba" | "verbb" | "verbc" | "pdf" | "url" | "urlraw"
     )
+}
+
+/// Whether the byte is the third one of such a name.
+#[inline(always)]
+fn is_third_of_verbatim(byte: u8) -> bool
+    ensures { result ≡ is_third_of_verbatim byte }
+{
+    matches!(byte, b'f' | b'i' | b'l' | b'r')
 }
 
 /// Whether the character is no backslash and no brace.

@@ -1,1 +1,2 @@
 pub mod TablePassing
+pub mod TableRenamed

@@ -1,5 +1,5 @@
 -- Which fields an entry inherits, and under which name of the reference each of them stands. Names are bytes in lower case.
-use Rattle.std.specs.Prelude.{ℕ, Bool, true, false, not, ◌&&◌, ◌||◌, List, [], ◌∷◌, if◌then◌else◌, codes}
+use Rattle.std.specs.Prelude.{ℕ, Bool, true, false, not, ◌==◌, ◌&&◌, ◌||◌, List, [], ◌∷◌, if◌then◌else◌, codes}
 use Rattle.std.specs.List.{list_any}
 use Rattle.std.specs.Str.{bytes_eq}
 use Rattle.biblatex_entries.specs.declared.role.Role.{Role}
@@ -84,6 +84,10 @@ renamed to from name =
     else (if is_multi_volume from && bytes_eq name (codes "maintitle") then codes "title"
     else (if is_multi_volume from && bytes_eq name (codes "mainsubtitle") then codes "subtitle"
     else renamed_in_part to from name)))
+
+-- whether the byte is the third one of a name that may be renamed: i, o or u
+abbrev pub is_third_of_renamed : ℕ → Bool
+is_third_of_renamed b = b == 105 || b == 111 || b == 117
 
 -- fields that come to xdata entries or from them keep their names
 abbrev pub source_name : Role → Role → List ℕ → List ℕ

@@ -2,8 +2,9 @@
 
 ghost use Rattle.std.specs.Prelude.{◌≡◌, ◌||◌};
 ghost use Rattle.biblatex_entries.specs.Roles.{is_multi_volume};
-ghost use Rattle.biblatex_inherited_fields.specs.Table.{is_among, never, is_part, is_volume, is_book, is_part_of_book, is_xdata, is_periodical, renamed, renamed_in_part, source_name};
+ghost use Rattle.biblatex_inherited_fields.specs.Table.{is_among, never, is_part, is_volume, is_book, is_part_of_book, is_third_of_renamed, is_xdata, is_periodical, renamed, renamed_in_part, source_name};
 
+use biblatex_content::third_byte;
 use biblatex_entries::Role;
 
 /// The fields that every entry inherits, but for xdata entries.
@@ -67,8 +68,19 @@ pub(crate) fn source_name<'n>(to: Role, from: Role, name: &'n str) -> &'n str
     renamed(to, from, name)
 }
 
-/// The name under which the field stands in a reference, where neither is an xdata entry.
+/// The name under which the field stands in a reference, where neither is an xdata entry. The third byte of most names says that it is the
+/// same.
 fn renamed<'n>(to: Role, from: Role, name: &'n str) -> &'n str
+    ensures { result.now ≡ renamed to from name.now }
+{
+    if !is_third_of_renamed(third_byte(name)) {
+        return name;
+    }
+    renamed_title(to, from, name)
+}
+
+/// The same of any name.
+fn renamed_title<'n>(to: Role, from: Role, name: &'n str) -> &'n str
     ensures { result.now ≡ renamed to from name.now }
 {
     match name {
@@ -78,6 +90,13 @@ fn renamed<'n>(to: Role, from: Role, name: &'n str) -> &'n str
         "mainsubtitle" if is_multi_volume(from) => "subtitle",
         _ => renamed_in_part(to, from, name),
     }
+}
+
+/// Whether the byte is the third one of a name that may stand for another one in a reference.
+fn is_third_of_renamed(byte: u8) -> bool
+    ensures { result ≡ is_third_of_renamed byte }
+{
+    matches!(byte, b'i' | b'o' | b'u')
 }
 
 /// The same where the entry is a part of a book or of a work like it.

@@ -1,5 +1,5 @@
 -- The names that resolved entries may have: those of all fields that are read, the new names of fields that are inherited, and `date`.
-use Rattle.std.proofs.Common.{◌≡◌, ℕ, zero, suc, ◌<◌, Bool, true, false, true≢false, cond, ◌&&◌, ◌||◌, List, [], ◌∷◌, ◌++◌, length, get_or, slice_get, flat_map, Option, Some, None, bytes_eq, codes, refl, sym, ap, ◌∙◌, arith}
+use Rattle.std.proofs.Common.{◌≡◌, ℕ, zero, suc, ◌<◌, Bool, true, false, true≢false, cond, ◌||◌, List, [], ◌∷◌, ◌++◌, length, get_or, slice_get, flat_map, Option, Some, None, bytes_eq, codes, refl, sym, ap, ◌∙◌, arith}
 use Rattle.std.specs.Prelude.{IfSome, if◌then◌else◌}
 use Rattle.std.specs.List.{list_any}
 use Rattle.std.specs.Map.{keys_of}
@@ -9,10 +9,11 @@ use Rattle.biblatex_fields.specs.Fields.{Named, value_named}
 use Rattle.biblatex_fields.specs.Value.{Value}
 use Rattle.biblatex_dates.specs.declared.date.Date.{Date}
 use Rattle.biblatex_entries.specs.declared.role.Role.{Role}
-use Rattle.biblatex_entries.specs.Roles.{role_of, is_multi_volume}
+use Rattle.biblatex_entries.specs.Roles.{role_of}
 use Rattle.biblatex_entries.specs.Entries.{Source}
 use Rattle.reference_graph.specs.References.{references_of}
-use Rattle.biblatex_inherited_fields.specs.Table.{inherits, is_xdata, is_periodical, is_part, is_volume, is_part_of_book, is_book, renamed_in_part, renamed, source_name}
+use Rattle.biblatex_inherited_fields.specs.Table.{inherits, is_xdata, renamed, source_name}
+use Rattle.biblatex_inherited_fields.proofs.TableRenamed.{IsNotRenamed, same_renamed}
 use Rattle.biblatex_inheritance.specs.Resolved.{Table, Offer, first, first_offer, own, undated, dated, date_for, resolved, offers, offer_if}
 use Rattle.biblatex_meaning.proofs.Equation.{iterated}
 use Rattle.biblatex_meaning.proofs.Solving.{resolved_in, rule, no_fields, solution_of}
@@ -31,13 +32,7 @@ names_in es = given ++ read_of es
 -- a name that no field gets
 record IsNotGiven (q : List ℕ) : Type 0 where
   pub date : bytes_eq q (codes "date") ≡ false
-  pub journaltitle : bytes_eq q (codes "journaltitle") ≡ false
-  pub journalsubtitle : bytes_eq q (codes "journalsubtitle") ≡ false
-  pub maintitle : bytes_eq q (codes "maintitle") ≡ false
-  pub mainsubtitle : bytes_eq q (codes "mainsubtitle") ≡ false
-  pub booktitle : bytes_eq q (codes "booktitle") ≡ false
-  pub booksubtitle : bytes_eq q (codes "booksubtitle") ≡ false
-  pub bookauthor : bytes_eq q (codes "bookauthor") ≡ false
+  pub kept : IsNotRenamed q
 
 fails_at : {X : Type 0} (p : X → Bool) (xs : List X) (i : ℕ) (d : X) → i < length xs → list_any p xs ≡ false → p (get_or xs i d) ≡ false
 fails_at p [] i d low e = absurd (omega (arith, low))
@@ -47,42 +42,24 @@ fails_at p (x ∷ xs) (suc i) d low e = fails_at p xs i d (omega (arith, low)) (
 not_given : (q : List ℕ) → list_any (bytes_eq q) given ≡ false → IsNotGiven q
 not_given q e = record {
   date = fails_at (bytes_eq q) given 0 [] (omega arith) e;
-  journaltitle = fails_at (bytes_eq q) given 1 [] (omega arith) e;
-  journalsubtitle = fails_at (bytes_eq q) given 2 [] (omega arith) e;
-  maintitle = fails_at (bytes_eq q) given 3 [] (omega arith) e;
-  mainsubtitle = fails_at (bytes_eq q) given 4 [] (omega arith) e;
-  booktitle = fails_at (bytes_eq q) given 5 [] (omega arith) e;
-  booksubtitle = fails_at (bytes_eq q) given 6 [] (omega arith) e;
-  bookauthor = fails_at (bytes_eq q) given 7 [] (omega arith) e;
+  kept = record {
+    journaltitle = fails_at (bytes_eq q) given 1 [] (omega arith) e;
+    journalsubtitle = fails_at (bytes_eq q) given 2 [] (omega arith) e;
+    maintitle = fails_at (bytes_eq q) given 3 [] (omega arith) e;
+    mainsubtitle = fails_at (bytes_eq q) given 4 [] (omega arith) e;
+    booktitle = fails_at (bytes_eq q) given 5 [] (omega arith) e;
+    booksubtitle = fails_at (bytes_eq q) given 6 [] (omega arith) e;
+    bookauthor = fails_at (bytes_eq q) given 7 [] (omega arith) e;
+  };
 }
 
-passed : (a b : Bool) (x y z : List ℕ) → b ≡ false → y ≡ z → (if a && b then x else y) ≡ z
-passed true true x y z e is = absurd (true≢false e)
-passed true false x y z e is = is
-passed false b x y z e is = is
-
 -- such a name is no new name
-same_in_part : (to from : Role) (q : List ℕ) → IsNotGiven q → renamed_in_part to from q ≡ q
-unfolding renamed_in_part
-same_in_part to from q n =
-    passed (is_part to && is_volume from) (bytes_eq q (codes "booktitle")) _ _ q n.booktitle
-    (passed (is_part to && is_volume from) (bytes_eq q (codes "booksubtitle")) _ _ q n.booksubtitle
-    (passed (is_part_of_book to && is_book from) (bytes_eq q (codes "bookauthor")) _ _ q n.bookauthor refl))
-
-same_renamed : (to from : Role) (q : List ℕ) → IsNotGiven q → renamed to from q ≡ q
-same_renamed to from q n =
-    passed (is_periodical from) (bytes_eq q (codes "journaltitle")) _ _ q n.journaltitle
-    (passed (is_periodical from) (bytes_eq q (codes "journalsubtitle")) _ _ q n.journalsubtitle
-    (passed (is_multi_volume from) (bytes_eq q (codes "maintitle")) _ _ q n.maintitle
-    (passed (is_multi_volume from) (bytes_eq q (codes "mainsubtitle")) _ _ q n.mainsubtitle
-    (same_in_part to from q n))))
-
 same_name : (to from : Role) (q : List ℕ) → IsNotGiven q → source_name to from q ≡ q
 same_name to from q n = by (is_xdata to || is_xdata from)
   where
     by : (b : Bool) → (if b then q else renamed to from q) ≡ q
     by true = refl
-    by false = same_renamed to from q n
+    by false = same_renamed to from q n.kept
 
 -- a name that no field gets is offered by no reference
 none_offered : (q : List ℕ) → IsNotGiven q → (to : Role) (es : List Source) (see : ℕ → Table) (rs : List ℕ) → ((r : ℕ) → see r q ≡ None) → first_offer to (offers es see rs) q ≡ None

@@ -2,6 +2,7 @@ pub mod Calls
 pub mod StringsTaken
 pub mod ContentRuns
 pub mod ContentMembers
+pub mod NamesMoved
 pub mod NamesWritten
 pub mod OrderNames
 pub mod OrderRows

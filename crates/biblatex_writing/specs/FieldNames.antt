@@ -1,5 +1,5 @@
 -- Names under which fields are written.
-use Rattle.std.specs.Prelude.{ℕ, Bool, List, [], ◌∷◌, map, find, option_map, unwrap_or, codes}
+use Rattle.std.specs.Prelude.{ℕ, Bool, ◌==◌, ◌||◌, List, [], ◌∷◌, map, find, option_map, unwrap_or, codes}
 use Rattle.std.specs.List.{list_any, IsDistinct}
 use Rattle.std.specs.Str.{bytes_eq}
 use Rattle.biblatex_fields.specs.Fields.{Named}
@@ -24,6 +24,14 @@ written_name name = unwrap_or (option_map (λ names. names.0) (find (λ names. b
 -- whether no field is written under a name
 abbrev pub is_never_written : List ℕ → Bool
 is_never_written name = list_any (λ names. bytes_eq name names.1) other_names
+
+-- whether the byte is the third one of a name that those fields are written under: c, l, n, r, s or u
+abbrev pub is_third_of_written : ℕ → Bool
+is_third_of_written b = b == 99 || b == 108 || b == 110 || b == 114 || b == 115 || b == 117
+
+-- whether it is the third one of a name that they are read under: c, d, f, h, i, n, u or y
+abbrev pub is_third_of_read : ℕ → Bool
+is_third_of_read b = b == 99 || b == 100 || b == 102 || b == 104 || b == 105 || b == 110 || b == 117 || b == 121
 
 -- No two fields are written under one name, filled or not.
 abbrev pub HaveDistinctWrittenNames : List Named → Type 0

@@ -4,9 +4,11 @@ ghost use Rattle.std.specs.Prelude.{◌≡◌, map};
 ghost use Rattle.std.specs.Option.{option_map};
 ghost use Rattle.std.specs.Map.{lookup};
 ghost use Rattle.std.specs.Str.{bytes_eq};
-ghost use Rattle.biblatex_writing.specs.FieldNames.{is_never_written, other_names, written_name};
+ghost use Rattle.biblatex_writing.specs.FieldNames.{is_never_written, is_third_of_read, is_third_of_written, other_names, written_name};
 ghost use Rattle.biblatex_writing.specs.Order.{comes_before};
 ghost use Rattle.biblatex_writing.specs.MovedFields.{row_view};
+
+use biblatex_content::third_byte;
 
 /// A field that is written under another name than its own.
 #[derive(Clone, Copy)]
@@ -89,9 +91,20 @@ pub(crate) fn moved_fields() -> &'static [Moved]
     ]
 }
 
-/// The other name under which a field may be read that is written under a name.
+/// The other name under which a field may be read that is written under a name. The third byte of most names says that they have none.
 #[inline(always)]
 pub fn other_name(name: &str) -> Option<&'static str>
+    ensures { option_map (λ s. s.now) result ≡ lookup (bytes_eq name.now) other_names }
+{
+    if !is_third_of_written(third_byte(name)) {
+        return None;
+    }
+    other_name_of_moved(name)
+}
+
+/// The same of any name.
+#[inline(never)]
+fn other_name_of_moved(name: &str) -> Option<&'static str>
     ensures { option_map (λ s. s.now) result ≡ lookup (bytes_eq name.now) other_names }
 {
     match name {
@@ -107,9 +120,21 @@ pub fn other_name(name: &str) -> Option<&'static str>
     }
 }
 
-/// Whether no field is written under a name, since fields of that name are written under another one.
+/// Whether no field is written under a name, since fields of that name are written under another one. The third byte of most names
+/// says that they are none of these.
 #[inline(always)]
 pub fn is_never_written(name: &str) -> bool
+    ensures { result ≡ is_never_written name.now }
+{
+    if !is_third_of_read(third_byte(name)) {
+        return false;
+    }
+    is_name_of_moved(name)
+}
+
+/// The same of any name.
+#[inline(never)]
+fn is_name_of_moved(name: &str) -> bool
     ensures { result ≡ is_never_written name.now }
 {
     matches!(
@@ -123,6 +148,22 @@ pub fn is_never_written(name: &str) -> bool
             | "address"
             | "key"
     )
+}
+
+/// Whether the byte is the third one of a name under which fields of another name are written.
+#[inline(always)]
+fn is_third_of_written(byte: u8) -> bool
+    ensures { result ≡ is_third_of_written byte }
+{
+    matches!(byte, b'c' | b'l' | b'n' | b'r' | b's' | b'u')
+}
+
+/// Whether the byte is the third one of such another name.
+#[inline(always)]
+fn is_third_of_read(byte: u8) -> bool
+    ensures { result ≡ is_third_of_read byte }
+{
+    matches!(byte, b'c' | b'd' | b'f' | b'h' | b'i' | b'n' | b'u' | b'y')
 }
 
 /// Whether the moved field comes before the field of that name, which is written under its own.

@@ -23,6 +23,7 @@ fn parse<'a>(alloc: Global, line: &'a str, scratch: &'a mut Scratch) -> Result<V
 /// Writes the members of the answer to a case; false where no kind has this name.
 fn is_answered(session: &mut Session, kind: &str, case: &Value<'_>) -> bool {
     cases::answer(session, kind, case)
+        || cases_literature::answer(session, kind, case)
         || cases_rendering::answer(session, kind, case)
         || cases_cite::answer(session, kind, case)
         || cases_uses::answer(session, kind, case)

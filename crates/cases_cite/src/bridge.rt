@@ -2,9 +2,8 @@
 
 use biblatex::{Bibliography, Entry};
 use cases::{Session, Value, put_parse_error};
-use cases_rendering::{
-    ENTRY_DEPTH, boxed, bridged, put_bridge_error, put_entry, put_unknown, read_source,
-};
+use cases_literature::{ENTRY_DEPTH, boxed, put_entry};
+use cases_rendering::{bridged, put_bridge_error, put_unknown, read_source};
 use interop::entry;
 
 /// The members of a case.

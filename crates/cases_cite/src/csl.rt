@@ -4,7 +4,7 @@ use crate::bytes::bytes;
 use crate::citing::answer_as_text;
 use crate::setting::{CiteSetting, english, format};
 use cases::{Refusal, Session, Value};
-use cases_rendering::boxed;
+use cases_literature::boxed;
 use cite::{Locale, Style};
 use csl_features::features;
 use csl_locales::locale;

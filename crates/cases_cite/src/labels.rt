@@ -2,7 +2,8 @@
 
 use biblatex::Entry;
 use cases::{Session, Value};
-use cases_rendering::{bibliography_of, boxed, put_bridge_error, put_unknown_name};
+use cases_literature::boxed;
+use cases_rendering::{bibliography_of, put_bridge_error, put_unknown_name};
 use interop::entry;
 use rendering_entries::Alphanumerical;
 

@@ -1,7 +1,8 @@
 //! How the document of a case is cited: the style, the locale and the format.
 
 use cases::{Session, Value, member};
-use cases_rendering::{accepted, boxed, english_locale, maybe_locale};
+use cases_literature::boxed;
+use cases_rendering::{accepted, english_locale, maybe_locale};
 use cite::{BufWriteFormat, Locale, Style, author_date, note, numeric};
 
 /// A document, and how it is cited.

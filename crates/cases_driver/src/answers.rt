@@ -1,7 +1,8 @@
 //! Citations and bibliographies as members of answers.
 
 use cases::{Session, Value, word_of};
-use cases_rendering::{ALIGNS, put_effort, put_written, put_written_tree};
+use cases_rendering::{put_effort, put_written, put_written_tree};
+use csl_words::SECOND_FIELDS;
 use driver::{BibliographyItem, Rendered, RenderedBibliography, RenderedCitation};
 use rendering_tree::{ElemChild, ElemChildren};
 use std::alloc::AllocError;
@@ -46,7 +47,7 @@ fn put_bibliography(session: &mut Session, has_trees: bool, bibliography: &Rende
     session.put_bool("hanging_indent", bibliography.hanging_indent);
     session.key("second_field_align");
     match bibliography.second_field_align {
-        Some(align) => session.string(word_of(ALIGNS, align)),
+        Some(align) => session.string(word_of(SECOND_FIELDS, align)),
         None => session.null(),
     }
     session.put_number("line_spacing", i64::from(bibliography.line_spacing.get()));

@@ -2,10 +2,9 @@
 
 use crate::answers::{put_rendered, put_text_of};
 use crate::finishing::{cited_alone, finished};
-use crate::sources::{Sources, read_styles};
+use crate::sources::{Entries, Sources, read_library, read_styles};
 use cases::{Session, Value, member};
-use cases_rendering::{bibliography_of, bridged, locale_files};
-use rendering_style::Style;
+use cases_rendering::locale_files;
 use std::slice;
 
 /// What is asked of a case.
@@ -66,27 +65,22 @@ pub(crate) fn answer_standalone(session: &mut Session, case: &Value<'_>) {
     }
 }
 
-/// Writes what styles give, or why one of them is refused.
+/// Writes what styles give over the files of a case, or why something is refused.
 fn put_by(session: &mut Session, case: &Value<'_>, wanted: Wanted, given: &[Value<'_>]) {
-    if let Some(styles) = read_styles(session, given) {
-        put_by_styles(session, case, wanted, styles.as_slice());
-    }
-}
-
-/// Writes what styles give over the files of a case.
-fn put_by_styles(session: &mut Session, case: &Value<'_>, wanted: Wanted, styles: &[Style]) {
-    let files = locale_files(session, case);
-    let Some(bibliography) = bibliography_of(session, case) else {
+    let Some(styles) = read_styles(session, given) else {
         return;
     };
-    let Some(library) = bridged(session, case, &bibliography) else {
+    let files = locale_files(session, case);
+    let Some((bibliography, library)) = read_library(session, case) else {
         return;
     };
     let sources = Sources {
-        styles,
+        styles: styles.as_slice(),
         files: files.as_slice(),
-        bibliography: &bibliography,
-        library: &library,
+        entries: Entries {
+            bibliography: &bibliography,
+            library: &library,
+        },
     };
     match wanted {
         Wanted::Finish => put_finished(session, case, sources),

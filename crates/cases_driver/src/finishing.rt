@@ -1,7 +1,7 @@
 //! What a driver makes of requests. Where there is nothing, the answer says why.
 
 use crate::requests::{cited, request};
-use crate::sources::{Sources, language};
+use crate::sources::{Entries, Sources, language, style_in};
 use cases::{Refusal, Session, Value, member};
 use cases_rendering::maybe_code;
 use driver::{BibliographyDriver, Rendered, standalone_citation};
@@ -34,10 +34,10 @@ fn finished_by<'s>(
     let Some(driver) = driver_of(session, case, sources) else {
         return None;
     };
-    let Some(order) = order(session, given, sources) else {
+    let Some(order) = order(session, given, sources.entries) else {
         return None;
     };
-    let Some(style) = sources.style(session, given) else {
+    let Some(style) = style_in(session, given, sources.styles) else {
         return None;
     };
     let locale = language(session, case, given);
@@ -84,11 +84,11 @@ fn driver_of<'s>(
 fn order<'s>(
     session: &mut Session,
     given: &Value<'_>,
-    sources: Sources<'s>,
+    entries: Entries<'s>,
 ) -> Option<Vec<&'s Entry>> {
     let mut order = Vec::new(session.alloc);
     for name in session.texts(given, "order") {
-        let Some(entry) = sources.entry(session, name) else {
+        let Some(entry) = entries.entry(session, name) else {
             return None;
         };
         session.push(&mut order, entry);
@@ -102,11 +102,11 @@ pub(crate) fn cited_alone<'s>(
     case: &'s Value<'_>,
     sources: Sources<'s>,
 ) -> Option<ElemChildren> {
-    let Some(cited) = cited(session, case, sources) else {
+    let Some(cited) = cited(session, case, sources.entries) else {
         return None;
     };
     let locale = maybe_code(session, case, "locale");
-    let Some(style) = sources.style(session, &Value::Null) else {
+    let Some(style) = style_in(session, &Value::Null, sources.styles) else {
         return None;
     };
     let request = CitationRequest::new(cited, style, locale, sources.files, None);

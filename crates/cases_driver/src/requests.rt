@@ -1,6 +1,6 @@
 //! Requests as values of cases. Where there is none, the answer says why.
 
-use crate::sources::{Sources, language};
+use crate::sources::{Entries, Sources, language, style_in};
 use cases::{Session, Value, member};
 use cases_rendering::{PURPOSES, maybe_code, maybe_locator};
 use driver_requests::{CitationItem, CitationRequest};
@@ -14,10 +14,10 @@ pub(crate) fn request<'s>(
     sources: Sources<'s>,
 ) -> Option<CitationRequest<'s, Entry, i64>> {
     session.only(given, &["items", "style", "locale", "note_number"]);
-    let Some(cited) = cited(session, given, sources) else {
+    let Some(cited) = cited(session, given, sources.entries) else {
         return None;
     };
-    let Some(style) = sources.style(session, given) else {
+    let Some(style) = style_in(session, given, sources.styles) else {
         return None;
     };
     let locale = language(session, case, given);
@@ -25,17 +25,18 @@ pub(crate) fn request<'s>(
     Some(CitationRequest::new(cited, style, locale, sources.files, note_number))
 }
 
+/// The items of a value.
 pub(crate) fn cited<'s>(
     session: &mut Session,
     given: &'s Value<'_>,
-    sources: Sources<'s>,
+    entries: Entries<'s>,
 ) -> Option<Vec<CitationItem<'s, Entry, i64>>> {
     let mut cited = Vec::new(session.alloc);
     let Some(items) = session.items(given, "items") else {
         return Some(cited);
     };
     for given in items {
-        let Some(item) = item(session, given, sources) else {
+        let Some(item) = item(session, given, entries) else {
             return None;
         };
         session.push(&mut cited, item);
@@ -46,11 +47,11 @@ pub(crate) fn cited<'s>(
 fn item<'s>(
     session: &mut Session,
     given: &'s Value<'_>,
-    sources: Sources<'s>,
+    entries: Entries<'s>,
 ) -> Option<CitationItem<'s, Entry, i64>> {
     session.only(given, &["entry", "locator", "hidden", "purpose", "locale"]);
     let name = session.text(given, "entry");
-    let Some(entry) = sources.entry(session, name) else {
+    let Some(entry) = entries.entry(session, name) else {
         return None;
     };
     let own = own_locator(session, given);

@@ -2,21 +2,19 @@
 
 use biblatex::Bibliography;
 use cases::{Session, Value};
-use cases_rendering::{accepted, maybe_code, named, put_unknown_name};
+use cases_rendering::{accepted, bibliography_of, bridged, maybe_code, named, put_unknown_name};
 use literature::{Entry, Library};
 use rendering_locale::{Locale, LocaleCode};
 use rendering_style::Style;
 
-/// What a document cites from.
+/// The entries of a file, by the names that it has for them.
 #[derive(Clone, Copy)]
-pub(crate) struct Sources<'s> {
-    pub(crate) styles: &'s [Style],
-    pub(crate) files: &'s [Locale],
+pub(crate) struct Entries<'s> {
     pub(crate) bibliography: &'s Bibliography,
     pub(crate) library: &'s Library,
 }
 
-impl<'s> Sources<'s> {
+impl<'s> Entries<'s> {
     /// The entry that a name means; where it means none, the answer says so.
     pub(crate) fn entry(self, session: &mut Session, name: &str) -> Option<&'s Entry> {
         let entry = named(self.bibliography, self.library, name);
@@ -25,15 +23,37 @@ impl<'s> Sources<'s> {
         }
         entry
     }
+}
 
-    /// The style of a request: the first one, where it names none.
-    pub(crate) fn style(self, session: &mut Session, given: &Value<'_>) -> Option<&'s Style> {
-        let style = self.styles.get(session.index_or_zero(given, "style"));
-        if style.is_none() {
-            session.want("style", "the place of a style");
-        }
-        style
+/// The entries of a case, and the library that they come to; none where either is refused, and the answer then says why.
+pub(crate) fn read_library(
+    session: &mut Session,
+    case: &Value<'_>,
+) -> Option<(Bibliography, Library)> {
+    let bibliography = bibliography_of(session, case)?;
+    let library = bridged(session, case, &bibliography)?;
+    Some((bibliography, library))
+}
+
+/// What a document cites from.
+#[derive(Clone, Copy)]
+pub(crate) struct Sources<'s> {
+    pub(crate) styles: &'s [Style],
+    pub(crate) files: &'s [Locale],
+    pub(crate) entries: Entries<'s>,
+}
+
+/// The style of a request: the first one of the styles, where it names none.
+pub(crate) fn style_in<'s>(
+    session: &mut Session,
+    given: &Value<'_>,
+    styles: &'s [Style],
+) -> Option<&'s Style> {
+    let style = styles.get(session.index_or_zero(given, "style"));
+    if style.is_none() {
+        session.want("style", "the place of a style");
     }
+    style
 }
 
 /// The styles of a list in their order; none where one of them is refused, and the answer then says why.

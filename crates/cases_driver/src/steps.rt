@@ -1,10 +1,9 @@
 //! The steps of a caller who prints by itself.
 
 use crate::nodes::{ask, put_name_options, render};
-use cases::{Session, Value};
+use cases::{Refusal, Session, Value};
 use literature::Entry;
 use rendering_writing::Context;
-use std::alloc::AllocError;
 use std::fmt::Write;
 
 /// Takes the steps of a case in their order, and writes what is asked on the way as the member `asked`.
@@ -34,7 +33,7 @@ fn take<'c>(session: &mut Session, step: &'c Value<'_>, context: &mut Context<'_
     }
 }
 
-/// Appends something beside nodes.
+/// Appends something beside nodes: a space, a text, a text by `fmt::Write`, the title of the entry if it has one, a link or a locator.
 fn append_beside<'c>(
     session: &mut Session,
     word: &str,
@@ -49,9 +48,15 @@ fn append_beside<'c>(
         }
         "write" => {
             let text = session.text(step, "text");
-            session.check(write_text(text, context));
+            if context.write_str(text).is_err() {
+                session.refuse(Refusal::Memory);
+            }
         }
-        "title" => session.check(push_title(context)),
+        "title" => {
+            if let Some(title) = context.entry.title() {
+                session.check(context.push_chunked(&title.value));
+            }
+        }
         "link" => {
             let text = session.text(step, "text");
             let url = session.text(step, "url");
@@ -62,21 +67,5 @@ fn append_beside<'c>(
             session.check(context.push_transparent(index));
         }
         _ => session.want("step", "the word of a step"),
-    }
-}
-
-/// Writes a text by `fmt::Write`.
-fn write_text(text: &str, context: &mut Context<'_, '_, '_, Entry>) -> Result<(), AllocError> {
-    match context.write_str(text) {
-        Ok(()) => Ok(()),
-        Err(_) => Err(AllocError),
-    }
-}
-
-/// Appends the title of the entry; nothing where it has none.
-fn push_title(context: &mut Context<'_, '_, '_, Entry>) -> Result<(), AllocError> {
-    match context.entry.title() {
-        Some(title) => context.push_chunked(&title.value),
-        None => Ok(()),
     }
 }

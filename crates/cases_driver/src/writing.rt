@@ -4,7 +4,7 @@ use crate::steps::take_all;
 use cases::{Refusal, Session, Value};
 use cases_rendering::put_written_tree;
 use literature::Entry;
-use rendering::{CiteProperties, LocaleCode, StyleContext, Walk, Words, YearSuffixText};
+use rendering::{CiteProperties, LocaleCode, StyleContext, Words, YearSuffixText};
 use rendering_writing::{Context, WritingContext};
 
 /// `writing`: what is asked of nodes on the way, and what the steps append.
@@ -65,24 +65,13 @@ fn put_in_words<'s, 'c>(
     properties: &'s CiteProperties<'c>,
 ) {
     let is_item = session.is_set(case, "bibliography");
-    let walk = context.walk(words, year_suffix, properties, is_item);
-    put_by_walk(session, case, walk, entry);
-}
-
-/// Writes what is asked and appended from a walk.
-fn put_by_walk<'c>(
-    session: &mut Session,
-    case: &'c Value<'_>,
-    walk: Walk<'_, 'c>,
-    entry: &'c Entry,
-) {
     let mut writing = WritingContext::new(session.alloc);
-    let mut context = Context {
-        walk,
+    let mut printed = Context {
+        walk: context.walk(words, year_suffix, properties, is_item),
         entry,
         writing: &mut writing,
     };
-    take_all(session, case, &mut context);
+    take_all(session, case, &mut printed);
     if let Some(tree) = session.allocated(writing.into_tree()) {
         put_written_tree(session, &tree);
     }

@@ -18,12 +18,9 @@ mod terms;
 mod variables;
 
 use cases::{Session, Value};
-pub use date_words::PARTS;
-pub use dates::{date_parts, part_changes};
-pub use given_locales::{locale, locales, maybe_code, maybe_ordinals};
+pub use given_locales::{maybe_code, maybe_ordinals};
 pub use leaves::NUMBER_FORMS;
-pub use looks::{DISPLAYS, formatting, is_plain, put_formatting};
-pub use parts::ALIGNS;
+pub use looks::{formatting, is_plain, put_formatting};
 pub use styles::{PAGE_RULES, accepted, style_of};
 pub use terms::{form_of, locator, locator_word};
 pub use variables::variable_of;

@@ -2,7 +2,7 @@
 
 use cases::{Session, Value, member};
 use cases_cite::style;
-use cases_rendering::boxed;
+use cases_literature::boxed;
 use cite::Style;
 use cite_uses::titles;
 

@@ -68,32 +68,34 @@ as_written bib task answer (r, is_read, is) same =
     (r >>= library_stage, (r, is_read, refl), is ∙ ap (λ (works : Result Works Refusal). verdict works task) (typographic_works bib r is_read same))
 
 -- the output in a style is a verdict
-in_style : (read : Reads) (a : Asked) (s : Sheet) (o : List ℕ) → IsOutput read a s (Ok o) → (locales : List Locale) × AreLocales s.words (files_at read a.locales) (Ok locales)
-    × (has_keys (sorting_of s) ≡ false → IsTypographicVerdict (joined (files_at read a.bibs)) (task_in read a (context_in a s locales)) (Ok o))
-in_style read a s o (Err lines, _, bad) = absurd cc
-in_style read a s o (Ok locales, are_locales, (Err lines, _, bad)) = absurd cc
-in_style read a s o (Ok locales, are_locales, (Ok works, (r, is_read, works_is), output_is)) =
-    let context = context_in a s locales in
+in_style : (read : Reads) (a : Asked) (s : Sheet) (m : Made) → IsOutput read a s (Ok m) → (locales : List Locale) × AreLocales s.words (files_at read a.locales) (Ok locales)
+    × (has_keys (sorting_of s) ≡ false → IsTypographicVerdict (joined (files_at read a.bibs)) (task_in read a (context_in a s locales)) (Ok m.output))
+in_style read a s m (Err lines, _, bad) = absurd cc
+in_style read a s m (Ok locales, are_locales, (Err lines, _, bad)) = absurd cc
+in_style read a s m (Ok locales, are_locales, (Ok o, (Err lines, _, bad), made_is)) = absurd cc
+in_style read a s m (Ok locales, are_locales, (Ok o, (Ok works, (r, is_read, works_is), output_is), made_is)) =
+    let bib = joined (files_at read a.bibs) in
+    let task = task_in read a (context_in a s locales) in
     let is = given (bib_lines (files_at read a.bibs)) (r >>= typographic_stage) works works_is in
-    (locales, are_locales, λ none. (r, is_read, verdict_is read a (setting_in a s locales) works o none output_is ∙ ap (λ (w : Result Works Refusal). verdict w (task_in read a context)) is))
+    let written : o ≡ m.output = ap (λ (n : Made). n.output) (sym (ok_is m (made a s locales o) made_is)) in
+    let typographic : has_keys (sorting_of s) ≡ false → IsTypographicVerdict bib task (Ok o) =
+    λ none. (r, is_read, verdict_is read a (setting_in a s locales) works o none output_is ∙ ap (λ (w : Result Works Refusal). verdict w task) is) in
+    (locales, are_locales, λ none. subst (λ (x : List ℕ). IsTypographicVerdict bib task (Ok x)) written (typographic none))
 
 -- the output of a run is one of cite
 by_sheet : (read : Reads) (a : Asked) (m : Made) (found : Sheet) → IsSheet read a.style (Ok found) → IsMadeIn read a found (Ok m) → IsCiteOutput read a m.output
 by_sheet read a m found is_sheet (Err lines, _, bad) = absurd cc
-by_sheet read a m found is_sheet (Ok s, is_taken, (Err lines, _, bad)) = absurd cc
-by_sheet read a m found is_sheet (Ok s, is_taken, (Ok output, is_output, made_is)) =
+by_sheet read a m found is_sheet (Ok s, is_taken, is_output) =
     let same = taken a.is_strict s found is_taken in
-    let written : output ≡ m.output = ap (λ (n : Made). n.output) (sym (ok_is m (made s output) made_is)) in
-    let style = in_style read a s output is_output in
+    let style = in_style read a s m is_output in
     let bib = joined (files_at read a.bibs) in
     let task = task_in read a (context_in a s style.0) in
-    let typographic : has_keys (sorting_of s) ≡ false → IsTypographicVerdict bib task (Ok m.output) = λ none. subst (λ (o : List ℕ). IsTypographicVerdict bib task (Ok o)) written (style.2 none) in
     record {
       sheet = s;
       locales = style.0;
       is_sheet = subst (λ (x : Sheet). IsSheet read a.style (Ok x)) same is_sheet;
       are_locales = style.1;
-      is_verdict = λ none. (typographic none, as_written bib task (Ok m.output) (typographic none));
+      is_verdict = λ none. (style.2 none, as_written bib task (Ok m.output) (style.2 none));
     }
 
 pub as_cite : (read : Reads) (a : Asked) (m : Made) → IsMade read a (Ok m) → IsCiteOutput read a m.output

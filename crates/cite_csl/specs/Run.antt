@@ -19,7 +19,7 @@ use Rattle.cite.specs.Verdict.{Task, verdict, IsVerdict}
 use Rattle.cite_order.specs.Order.{Setting, has_keys, rendered_in_order}
 use Rattle.cite_csl_command.specs.Command.{Asked}
 use Rattle.cite_csl.specs.Names.{pieces_of, rendered_lines}
-use Rattle.cite_csl_styles.specs.FeatureLines.{feature_lines}
+use Rattle.cite_csl_styles.specs.FeatureLines.{feature_lines, term_lines}
 use Rattle.cite_csl_styles.specs.Sheets.{Sheet, IsSheet, AreLocales, sorting_of}
 use Rattle.cite_csl_styles.specs.Sources.{Reads, SourceFile, AreRead, file_at, files_at, joined, line}
 use Rattle.cite_csl_styles.specs.Stages.{Lines, Then, Gives}
@@ -64,26 +64,30 @@ output_of a d setting works = pieces_of d >>= λ pieces. output_for a d setting 
 abbrev pub IsOutputIn : Reads → Asked → Setting → Result (List ℕ) Lines → Type 0
 IsOutputIn read a setting = Then (AreWorks (files_at read a.bibs)) (λ (works : Works). Gives (output_of a (file_at read a.document) setting works))
 
--- the output in a style, whose locales are read first
-abbrev pub IsOutput : Reads → Asked → Sheet → Result (List ℕ) Lines → Type 0
-IsOutput read a s =
-    Then (AreLocales s.words (files_at read a.locales)) (λ (locales : List Locale).
-    IsOutputIn read a (setting_in a s locales))
+-- what is said of a style besides: what is not carried out, and then the terms that it prints and no locale has
+abbrev pub told_of : Asked → Sheet → List Locale → Lines
+told_of a s locales = feature_lines s ++ term_lines s (option_or a.lang s.lang) locales
 
 -- what is written, and what is said besides
 pub record Made : Type 0 where
   pub output : List ℕ
   pub told : Lines
 
-abbrev pub made : Sheet → List ℕ → Made
-made s output = record { output = output; told = feature_lines s }
+abbrev pub made : Asked → Sheet → List Locale → List ℕ → Made
+made a s locales output = record { output = output; told = told_of a s locales }
+
+-- the output in a style, whose locales are read first, and what is said besides
+abbrev pub IsOutput : Reads → Asked → Sheet → Result Made Lines → Type 0
+IsOutput read a s =
+    Then (AreLocales s.words (files_at read a.locales)) (λ (locales : List Locale).
+    Then (IsOutputIn read a (setting_in a s locales)) (λ (output : List ℕ).
+    Gives (Ok (made a s locales output))))
 
 -- what a run comes to in a style that is found
 abbrev pub IsMadeIn : Reads → Asked → Sheet → Result Made Lines → Type 0
 IsMadeIn read a found =
     Then (Gives (strict a.is_strict found)) (λ (s : Sheet).
-    Then (IsOutput read a s) (λ (output : List ℕ).
-    Gives (Ok (made s output))))
+    IsOutput read a s)
 
 -- What a run comes to, or the lines that say why it comes to nothing: all files are read, and then the style, the locales, the bib texts, the
 -- document and its names; the first that is refused says all of its faults.

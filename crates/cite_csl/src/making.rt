@@ -1,13 +1,14 @@
 //! What a run comes to.
 
-ghost use Rattle.std.specs.Prelude.{◌≡◌, IfOk, string_bytes};
+ghost use Rattle.std.specs.Prelude.{◌≡◌, map, IfOk, string_bytes};
 ghost use Rattle.std.specs.Option.{option_map, option_or};
 ghost use Rattle.programs.specs.Files.{read_at};
 ghost use Rattle.laws.specs.Borrowed.{borrowed};
 ghost use Rattle.cite_csl_styles.specs.Answers.{Answers, Returns};
+ghost use Rattle.rendering_locale.specs.Views.{locale_view};
 ghost use Rattle.rendering_style.specs.StyleViews.{style_view};
 ghost use Rattle.cite_csl.specs.Run as run;
-ghost use Rattle.cite_csl.specs.Run.{IsMade, IsMadeIn, IsOutput, IsOutputIn, output_for, strict};
+ghost use Rattle.cite_csl.specs.Run.{IsMade, IsMadeIn, IsOutput, IsOutputIn, output_for, strict, told_of};
 ghost use Rattle.cite_csl_styles.specs.FeatureLines.{feature_lines};
 ghost use Rattle.cite_csl_styles.specs.Sheets.{IsSheet, sorting_of};
 ghost use Rattle.cite_csl_styles.specs.Sources as sources;
@@ -26,11 +27,12 @@ use crate::entries::Entries;
 use cite_csl_command::Asked;
 use cite_csl_styles::{
     Sheet, Stop, feature_lines, file_at, files_at, found_at, locales_of, paths_for, sheet_of,
-    unread_lines,
+    term_lines, unread_lines,
 };
 use cite_order::SortedSetting;
 use cite_output::Output;
 use programs::FileRead;
+use rendering_locale::Locale;
 use std::alloc::{AllocError, Global};
 
 /// What a run writes, and what it says besides.
@@ -94,6 +96,23 @@ fn lang_of<'a>(asked: Option<&'a str>, sheet: &'a Sheet<'_>) -> Option<&'a str>
     }
 }
 
+/// What is said of a style besides: these lines, for what is not carried out, and then those for the terms that it prints and no locale has.
+fn told_of(
+    alloc: Global,
+    asked: &Asked<'_>,
+    sheet: &Sheet<'_>,
+    locales: &[Locale],
+    mut lines: String,
+) -> Result<String, AllocError>
+    requires { string_bytes lines ≡ feature_lines (sheet_view sheet.now) }
+    ensures { IfOk result (λ s. string_bytes s ≡ told_of (asked_view asked.now)
+        (sheet_view sheet.now) (map locale_view locales.now)) }
+{
+    let terms = term_lines(alloc, sheet, lang_of(asked.lang, sheet), locales)?;
+    lines.push_str(terms.as_str())?;
+    Ok(lines)
+}
+
 /// The output for a document that is read.
 fn output_of<'d>(
     alloc: Global,
@@ -145,15 +164,17 @@ fn output_with<'f>(
     document_output(alloc, asked, files, &entries, setting)
 }
 
-/// The output in a style, whose locales are read first.
+/// The output in a style, whose locales are read first, and what is said besides; these lines are for what is not carried out.
 fn output_in<'f>(
     alloc: Global,
     asked: &Asked<'f>,
     files: &'f [FileRead<'_>],
     sheet: &Sheet<'_>,
-) -> Result<Output<'f>, Stop>
-    requires { style_view sheet.now.sorting ≡ sorting_of (sheet_view sheet.now) }
-    ensures { Answers output_of result (IsOutput (read_at files.entry.now)
+    lines: String,
+) -> Result<Made<'f>, Stop>
+    requires sorting { style_view sheet.now.sorting ≡ sorting_of (sheet_view sheet.now) }
+    requires lines { string_bytes lines ≡ feature_lines (sheet_view sheet.now) }
+    ensures { Answers made_view result (IsOutput (read_at files.entry.now)
         (asked_view asked.now) (sheet_view sheet.now)) }
 {
     let locale_files = files_at(alloc, files, asked.locales.as_slice())?;
@@ -164,7 +185,9 @@ fn output_in<'f>(
         lang: lang_of(asked.lang, sheet),
         locales: locales.as_slice(),
     };
-    output_with(alloc, asked, files, setting)
+    let output = output_with(alloc, asked, files, setting)?;
+    let told = told_of(alloc, asked, sheet, locales.as_slice(), lines)?;
+    Ok(Made { output, told })
 }
 
 /// What a run comes to in a style that is found.
@@ -179,8 +202,7 @@ fn make_in<'f>(
         (asked_view asked.now) (sheet_view sheet.now)) }
 {
     let told = strict(alloc, asked.is_strict, sheet)?;
-    let output = output_in(alloc, asked, files, sheet)?;
-    Ok(Made { output, told })
+    output_in(alloc, asked, files, sheet, told)
 }
 
 /// The style at a path.

@@ -80,7 +80,7 @@ fn say_stop<E: Sink>(stop: &Stop, status: u8, err: &mut E) -> u8
     }
 }
 
-/// Writes what a run came to, and says what is not carried out.
+/// Writes what a run came to, and says what is not carried out and which terms no locale has.
 fn write<O: Sink, E: Sink>(made: &Made<'_>, out: &mut O, err: &mut E) -> u8
     ensures status { result ≤ 1 }
     ensures served { result ≡ 0 → (Appends (O.contents out.old) (O.contents out.new)
@@ -104,7 +104,8 @@ fn write<O: Sink, E: Sink>(made: &Made<'_>, out: &mut O, err: &mut E) -> u8
 }
 
 /// Runs the program for what words ask for. The output goes to `out`, and the status is 0; then `err` takes a line for each thing that the style
-/// asks for and is not carried out. Or lines that say why there is no output go to `err`: the status is 2 where a section is no selector, else 1.
+/// asks for and is not carried out, and then for each term that it prints and no locale has. Or lines that say why there is no output go to `err`:
+/// the status is 2 where a section is no selector, else 1.
 /// `files` are what was read of the paths that `paths` and `parent_paths` name; one that is missing cannot be read. A fault of `err` is passed
 /// over.
 pub fn run<'f, O: Sink, E: Sink>(

@@ -39,7 +39,7 @@ fn xml_text(fault: Fault) -> &'static str
 }
 
 /// Some words, and a text after them.
-fn text_of(alloc: Global, words: &str, name: &str) -> Result<String, AllocError>
+pub(crate) fn text_of(alloc: Global, words: &str, name: &str) -> Result<String, AllocError>
     ensures bytes { IfOk result (λ s. string_bytes s ≡ words.now ++ name.now) }
     ensures characters { IfOk result (λ s. string_bytes s ≡ words.now ++ text (chars name.now)) }
 {

@@ -1,1 +1,2 @@
+pub mod EachElement
 pub mod Gathered

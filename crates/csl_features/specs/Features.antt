@@ -1,5 +1,5 @@
 -- What a style asks for and is not carried out, by the elements that ask for it, in the order of the text. Names and words are bytes.
-use Rattle.std.specs.Prelude.{ℕ, Bool, true, ◌==◌, ◌&&◌, List, [], ◌++◌, length, map, filter, is_some, if◌then◌else◌}
+use Rattle.std.specs.Prelude.{ℕ, Bool, true, ◌==◌, ◌&&◌, List, [], ◌∷◌, ◌++◌, length, map, filter, flat_map, is_some, if◌then◌else◌}
 use Rattle.std.specs.List.{list_any}
 use Rattle.std.specs.Str.{bytes_eq}
 use Rattle.xml_tree.specs.Trees.{Element, Tagged, Content, Last, Next}
@@ -72,10 +72,14 @@ abbrev pub own_features : Element → List Feature
 own_features e = features_by e rows
 
 abbrev mutual
-  -- those of an element and of the elements in it; what is in `info` and in elements of other namespaces asks for nothing
-  pub features : Element → List Feature
-  features (Tagged left n attributes content) = if is_passed n then [] else own_features (Tagged left n attributes content) ++ features_in content
+  -- an element and those in it, in the order of the text, but for `info` and elements of other namespaces with all that is in these
+  pub elements : Element → List Element
+  elements (Tagged left n attributes content) = if is_passed n then [] else Tagged left n attributes content ∷ elements_in content
 
-  pub features_in : Content → List Feature
-  features_in (Last t) = []
-  features_in (Next t e c) = features e ++ features_in c
+  pub elements_in : Content → List Element
+  elements_in (Last t) = []
+  elements_in (Next t e c) = elements e ++ elements_in c
+
+-- those of a style, by its root
+abbrev pub features : Element → List Feature
+features root = flat_map own_features (elements root)

@@ -1,2 +1,3 @@
 pub mod Features
+pub mod Missing
 pub mod Views

@@ -1,20 +1,18 @@
 //! Which features the elements of a style ask for.
 
-ghost use Rattle.std.specs.Prelude.{◌≡◌, ◌++◌, ◌∷◌, [], ℕ, List, map, IfOk, OnOk};
+ghost use Rattle.std.specs.Prelude.{◌≡◌, ◌++◌, ◌∷◌, [], map, IfOk, OnOk};
 ghost use Rattle.std.specs.List.{list_any};
 ghost use Rattle.std.specs.Str.{bytes_eq};
 ghost use Rattle.laws.specs.Borrowed.{borrowed};
-ghost use Rattle.xml_tree.specs.Trees.{content_of};
-ghost use Rattle.xml_tree.specs.Views as views;
 ghost use Rattle.xml_tree.specs.Views.{element_view};
 ghost use Rattle.csl_features.specs.Features as specs;
-ghost use Rattle.csl_features.specs.Features.{asks, features_by, own_features, features_in};
+ghost use Rattle.csl_features.specs.Features.{asks, features_by, own_features};
 ghost use Rattle.csl_features.specs.Views.{feature_view, wanted_view, row_view};
 
 use crate::feature::Feature;
 use crate::rows::{FEATURES, Row, Wanted};
-use csl_locales::is_passed;
-use csl_words::{attribute, children_of, is_called, part_called, words_in};
+use crate::walking::elements;
+use csl_words::{attribute, is_called, part_called, words_in};
 use std::alloc::{AllocError, Global};
 use xml_tree::Element;
 
@@ -87,7 +85,7 @@ fn asks(alloc: Global, row: Row, element: &Element<'_>) -> Result<bool, AllocErr
 /// Appends the feature of a row, if an element asks for it.
 fn push_asked(
     alloc: Global,
-    found: &mut Vec<Feature>,
+    found: &mut Vec<Feature<'static>>,
     row: Row,
     element: &Element<'_>,
 ) -> Result<(), AllocError>
@@ -106,7 +104,7 @@ fn push_asked(
 /// Appends the features of rows that an element asks for.
 fn push_by(
     alloc: Global,
-    found: &mut Vec<Feature>,
+    found: &mut Vec<Feature<'static>>,
     rows: &[Row],
     element: &Element<'_>,
 ) -> Result<(), AllocError>
@@ -122,7 +120,7 @@ fn push_by(
 /// Appends the features that an element asks for by itself.
 fn push_own(
     alloc: Global,
-    found: &mut Vec<Feature>,
+    found: &mut Vec<Feature<'static>>,
     element: &Element<'_>,
 ) -> Result<(), AllocError>
     ensures { OnOk result (map feature_view found.new.items
@@ -131,48 +129,16 @@ fn push_own(
     push_by(alloc, found, FEATURES, element)
 }
 
-/// Appends the features that an element and those in it ask for.
-#[cycle(elements)]
-fn push_features(
-    alloc: Global,
-    found: &mut Vec<Feature>,
-    element: &Element<'_>,
-) -> Result<(), AllocError>
-    ensures { OnOk result (map feature_view found.new.items
-        ≡ map feature_view found.old.items ++ specs.features (element_view element.entry.now)) }
-{
-    if is_passed(element) {
-        return Ok(());
-    }
-    push_own(alloc, found, element)?;
-    push_features_in(alloc, found, children_of(element))
-}
-
-/// Appends those of elements.
-#[cycle(elements)]
-fn push_features_in(
-    alloc: Global,
-    found: &mut Vec<Feature>,
-    children: &[(String, Element<'_>)],
-) -> Result<(), AllocError>
-    ensures { OnOk result ((t : List ℕ) → map feature_view found.new.items
-        ≡ map feature_view found.old.items
-        ++ features_in (content_of (views.children_of children.entry.now) t)) }
-{
-    for child in children {
-        push_features(alloc, found, &child.1)?;
-    }
-    Ok(())
-}
-
 /// What a style asks for and is not carried out, in the order of the text. It recurses as deep as elements are nested.
 ///
 /// # Errors
 /// Where a request for memory was refused.
-pub fn features(alloc: Global, root: &Element<'_>) -> Result<Vec<Feature>, AllocError>
+pub fn features(alloc: Global, root: &Element<'_>) -> Result<Vec<Feature<'static>>, AllocError>
     ensures { IfOk result (λ v. map feature_view v.items ≡ specs.features (element_view root.now)) }
 {
     let mut found = Vec::new(alloc);
-    push_features(alloc, &mut found, root)?;
+    for element in elements(alloc, root)? {
+        push_own(alloc, &mut found, element)?;
+    }
     Ok(found)
 }

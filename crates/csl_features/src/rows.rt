@@ -21,11 +21,4 @@ pub(crate) const FEATURES: &[Row] = &[
     ),
     ("term", ("gender-form", ""), NOTHING, "", "gender-form"),
     ("term", ("match", ""), NOTHING, "", "match"),
-    (
-        "style-options",
-        ("limit-day-ordinals-to-day-1", "true"),
-        NOTHING,
-        "",
-        "limit-day-ordinals-to-day-1",
-    ),
 ];

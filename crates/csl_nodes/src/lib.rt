@@ -16,7 +16,7 @@ mod terms;
 mod words;
 
 pub use dates::date_parts;
-pub use looks::{formatting, text_case};
+pub use looks::{formatting, term_form, text_case};
 pub use macros::macro_of;
 pub use nodes::nodes_inside;
 pub use options::name_options;

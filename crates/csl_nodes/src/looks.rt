@@ -63,7 +63,7 @@ pub(crate) fn text_look(alloc: Global, element: &Element<'_>) -> Result<TextLook
 }
 
 /// The form of a term.
-pub(crate) fn term_form(element: &Element<'_>) -> TermForm
+pub fn term_form(element: &Element<'_>) -> TermForm
     ensures { result ≡ term_form (element_view element.now) }
 {
     value_by(TERM_FORMS, "form", element).unwrap_or(TermForm::Long)

@@ -4,6 +4,7 @@ pub mod FirstFaults
 pub mod Located
 pub mod Blamed
 pub mod Merging
+pub mod Prefixed
 pub mod Segments
 pub mod Answering
 pub mod Outcomes

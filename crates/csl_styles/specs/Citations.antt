@@ -55,8 +55,8 @@ near_note_distance e = unwrap_or (number (codes "near-note-distance") e) 5
 
 -- A citation. Of its last members all but `raises_names_first` and `locators_end_runs` are what CSL says of every style: the
 -- first of alike cites takes the branch for alike ones too; ibid repeats a citation of one cite alone; names are compared with
--- those of other entries; year suffixes go by the numbers of entries; cites are gathered by what their names print. Locators end
--- runs of numbers where the style prints any.
+-- those of other entries; year suffixes go by the numbers of entries; cites are gathered by what their names print; years that
+-- repeat are left out. Locators end runs of numbers where the style prints any.
 abbrev pub citation : List (List ℕ) → Bool → Element → Citation
 citation words prints_locators e = record {
   layout = layout_in words e;
@@ -77,4 +77,5 @@ citation words prints_locators e = record {
   raises_names_first = raises_names_first e;
   gathers_by_text = true;
   locators_end_runs = prints_locators;
+  repeats_no_years = true;
 }

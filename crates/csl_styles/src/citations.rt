@@ -127,5 +127,6 @@ pub(crate) fn citation(
         raises_names_first: raises_names_first(element),
         gathers_by_text: true,
         locators_end_runs: prints_locators,
+        repeats_no_years: true,
     })
 }

@@ -12,6 +12,10 @@ ghost use Rattle.csl_styles.specs.SecondFields.{
   first_spaced,
   has_affixes,
   takes_prefix,
+  outside,
+  prefixed_look,
+  prefixed_node,
+  first_prefixed,
   with_first_apart,
   aligned,
 };
@@ -19,10 +23,10 @@ ghost use Rattle.csl_styles.specs.SecondFields.{
 use rendering_style::{Layout, Look, Node};
 use rendering_taxonomy::SecondFieldAlign;
 use std::alloc::{AllocError, Global};
-use texts::{owned, push_character, push_text, text_or_empty};
+use texts::{empty_text, owned, push_character, push_text, text_or_empty};
 
-/// Parts the first field of a layout from the second one, where the second one is aligned: the prefix of the layout goes before the first
-/// field, and a space after it.
+/// Parts the first field of a layout from the second one, where the second one is aligned: the prefix of the layout, and of groups in
+/// front, goes before the first field, and a space after it.
 pub(crate) fn part_first(
     alloc: Global,
     align: Option<SecondFieldAlign>,
@@ -41,7 +45,8 @@ fn align_first(alloc: Global, layout: &mut Layout) -> Result<(), AllocError>
     ensures { OnOk result (layout_view layout.new ≡ with_first_apart (layout_view layout.old)) }
 {
     let is_taken = takes_prefix(&layout.nodes);
-    space_first(alloc, text_or_empty(&layout.prefix), &mut layout.nodes)?;
+    space_first(alloc, &mut layout.nodes)?;
+    prefix_first(alloc, text_or_empty(&layout.prefix), &mut layout.nodes)?;
     leave_prefix(is_taken, &mut layout.prefix);
     Ok(())
 }
@@ -77,41 +82,100 @@ fn leave_prefix(is_taken: bool, prefix: &mut Option<String>)
     }
 }
 
-/// Puts a prefix before the first node, and ends its suffix in one space.
-fn space_first(alloc: Global, prefix: &str, nodes: &mut Vec<Node>) -> Result<(), AllocError>
+/// Ends the suffix of the first node in one space.
+fn space_first(alloc: Global, nodes: &mut Vec<Node>) -> Result<(), AllocError>
     ensures { OnOk result (map node_view nodes.new.items
-        ≡ first_spaced (chars prefix.now) (map node_view nodes.old.items)) }
+        ≡ first_spaced (map node_view nodes.old.items)) }
 {
     if nodes.is_empty() {
         return Ok(());
     }
-    space_node(alloc, prefix, &mut nodes[0])
+    space_node(alloc, &mut nodes[0])
 }
 
-/// Puts a prefix before a node, and ends its suffix in one space, if it has affixes.
-fn space_node(alloc: Global, prefix: &str, node: &mut Node) -> Result<(), AllocError>
-    ensures { OnOk result (node_view node.new
-        ≡ spaced_node (chars prefix.now) (node_view node.old)) }
+/// Ends the suffix of a node in one space, if it has affixes.
+fn space_node(alloc: Global, node: &mut Node) -> Result<(), AllocError>
+    ensures { OnOk result (node_view node.new ≡ spaced_node (node_view node.old)) }
 {
     match node {
-        Node::Text(text) => space_after(alloc, prefix, &mut text.look.look),
-        Node::Number(number) => space_after(alloc, prefix, &mut number.look),
-        Node::Label(label) => space_after(alloc, prefix, &mut label.label.look),
-        Node::Date(date) => space_after(alloc, prefix, &mut date.look),
-        Node::Names(names, _) => space_after(alloc, prefix, &mut names.look),
+        Node::Text(text) => space_after(alloc, &mut text.look.look),
+        Node::Number(number) => space_after(alloc, &mut number.look),
+        Node::Label(label) => space_after(alloc, &mut label.label.look),
+        Node::Date(date) => space_after(alloc, &mut date.look),
+        Node::Names(names, _) => space_after(alloc, &mut names.look),
         Node::Choose(_, _) => Ok(()),
-        Node::Group(group, _) => space_after(alloc, prefix, &mut group.look),
+        Node::Group(group, _) => space_after(alloc, &mut group.look),
     }
 }
 
-/// Puts a prefix before that of a look, and ends its suffix in one space.
-fn space_after(alloc: Global, prefix: &str, look: &mut Look) -> Result<(), AllocError>
-    ensures { OnOk result (look_view look.new
-        ≡ spaced_look (chars prefix.now) (look_view look.old)) }
+/// Ends the suffix of a look in one space.
+fn space_after(alloc: Global, look: &mut Look) -> Result<(), AllocError>
+    ensures { OnOk result (look_view look.new ≡ spaced_look (look_view look.old)) }
 {
-    let before = joined(alloc, prefix, look.prefix.as_str())?;
     look.suffix = spaced(alloc, look.suffix.as_str())?;
-    look.prefix = before;
+    Ok(())
+}
+
+/// Puts a prefix before that of the first node.
+#[cycle(prefixing)]
+fn prefix_first(alloc: Global, prefix: &str, nodes: &mut Vec<Node>) -> Result<(), AllocError>
+    ensures { OnOk result (map node_view nodes.new.items
+        ≡ first_prefixed (chars prefix.now) (map node_view nodes.old.items)) }
+{
+    if nodes.is_empty() {
+        return Ok(());
+    }
+    prefix_node(alloc, prefix, &mut nodes[0])
+}
+
+/// Puts a prefix before that of a node, if it has affixes.
+#[cycle(prefixing)]
+fn prefix_node(alloc: Global, prefix: &str, node: &mut Node) -> Result<(), AllocError>
+    ensures { OnOk result (node_view node.new
+        ≡ prefixed_node (chars prefix.now) (node_view node.old)) }
+{
+    match node {
+        Node::Text(text) => put_before(alloc, prefix, &mut text.look.look),
+        Node::Number(number) => put_before(alloc, prefix, &mut number.look),
+        Node::Label(label) => put_before(alloc, prefix, &mut label.label.look),
+        Node::Date(date) => put_before(alloc, prefix, &mut date.look),
+        Node::Names(names, _) => put_before(alloc, prefix, &mut names.look),
+        Node::Choose(_, _) => Ok(()),
+        Node::Group(group, children) => prefix_group(alloc, prefix, &mut group.look, children),
+    }
+}
+
+/// Puts a prefix before that of a group, and all of it before that of the group's first node, where this has affixes.
+#[cycle(prefixing)]
+#[tactic(auto, using(crate::proofs::Prefixed::none_taken))]
+fn prefix_group(
+    alloc: Global,
+    prefix: &str,
+    look: &mut Look,
+    children: &mut Vec<Node>,
+) -> Result<(), AllocError>
+    ensures { OnOk result ((look_view look.new ≡ outside
+        (takes_prefix (map node_view children.old.items)) (chars prefix.now) (look_view look.old))
+        × (map node_view children.new.items
+        ≡ first_prefixed (chars prefix.now ++ characters look.old.prefix)
+        (map node_view children.old.items))) }
+{
+    let all = joined(alloc, prefix, look.prefix.as_str())?;
+    if !takes_prefix(children) {
+        look.prefix = all;
+        return Ok(());
+    }
+    prefix_first(alloc, all.as_str(), children)?;
+    look.prefix = empty_text(alloc);
+    Ok(())
+}
+
+/// Puts a prefix before that of a look.
+fn put_before(alloc: Global, prefix: &str, look: &mut Look) -> Result<(), AllocError>
+    ensures { OnOk result (look_view look.new
+        ≡ prefixed_look (chars prefix.now) (look_view look.old)) }
+{
+    look.prefix = joined(alloc, prefix, look.prefix.as_str())?;
     Ok(())
 }
 

@@ -5,8 +5,9 @@ use Rattle.std.specs.List.{AllByRecursion, enumerate_from, flat_map, list_any}
 use Rattle.rendering_style.specs.Styles.{Citation}
 use Rattle.rendering_taxonomy.specs.declared.style.Collapse.{Collapse}
 use Rattle.rendering_taxonomy.specs.declared.style.Collapse.TheVariants as collapses
+use Rattle.driver_requests.specs.Suffixes.{Suffix}
 use Rattle.driver_blocks.specs.Blocks.{Gathered, blocks, gathered, gathered_at, gathers, inside_delimiter, is_of_block}
-use Rattle.driver_blocks.specs.Collapsing.{after_run, arranged, block_by, collapsed, continues, delimiter_after_collapsed, has_later, is_next_number, is_numbered, later, numbers_collapsed, suffixes_collapsed, uncollapsed, uncollapsed_block, with_previous_test, year_block, years_collapsed}
+use Rattle.driver_blocks.specs.Collapsing.{after_run, arranged, block_by, collapsed, continues, delimiter_after_collapsed, has_later, is_next_number, is_numbered, last_suffix, later_cites, numbers_collapsed, suffixes_collapsed, uncollapsed, uncollapsed_block, with_previous_test, year_block, years_collapsed}
 use Rattle.driver_blocks.specs.Runs.{Arranged, collapsed_run, is_long, last_after_dash, runs_of}
 use Rattle.driver.proofs.ArrangedCount.{runs_all}
 use Rattle.driver.proofs.Members.{drop_all, either_all, enumerate_all, filter_all, flat_all, map_all, parts_all, weaker_all, zip_all}
@@ -54,31 +55,35 @@ module _ {X : Type 0} (c : Citation) (P : Gathered X → Type 0) where
   block_all [] h = tt
   block_all (x ∷ xs) h = ((h.0, λ e. e), each_uncollapsed (inside_delimiter c) xs h.1)
 
-  years_all : (mode : Collapse) (p : Bool × List (Gathered X)) → AllByRecursion P p.1 → AllByRecursion IsOne (year_block c mode p)
-  years_all mode (is_after, []) h = tt
-  years_all mode (is_after, x ∷ xs) h = ((h.0, λ e. e), map_all IsOne (later c mode) xs (weaker_all P (λ y. IsOne (later c mode y)) (λ y g. (g, λ e. e)) xs h.1))
+  later_all : (none : Bool) (mode : Collapse) (last : Option Suffix) (xs : List (Gathered X)) → AllByRecursion P xs → AllByRecursion IsOne (later_cites c none mode last xs)
+  later_all none mode last [] h = tt
+  later_all none mode last (x ∷ xs) h = ((h.0, λ e. e), later_all none mode (last_suffix last x) xs h.1)
 
-  by_all : (mode : Collapse) (p : Bool × List (Gathered X)) → AllByRecursion P p.1 → AllByRecursion IsOne (block_by c mode p)
-  by_all collapses.CitationNumber p h = years_all collapses.CitationNumber p h
-  by_all collapses.Year p h = years_all collapses.Year p h
-  by_all collapses.YearSuffix p h = years_all collapses.YearSuffix p h
-  by_all collapses.YearSuffixRanged p h = suffixes_all (year_block c collapses.YearSuffixRanged p) (years_all collapses.YearSuffixRanged p h)
+  years_all : (none : Bool) (mode : Collapse) (p : Bool × List (Gathered X)) → AllByRecursion P p.1 → AllByRecursion IsOne (year_block c none mode p)
+  years_all none mode (is_after, []) h = tt
+  years_all none mode (is_after, x ∷ xs) h = ((h.0, λ e. e), later_all none mode (last_suffix None x) xs h.1)
+
+  by_all : (none : Bool) (mode : Collapse) (p : Bool × List (Gathered X)) → AllByRecursion P p.1 → AllByRecursion IsOne (block_by c none mode p)
+  by_all none collapses.CitationNumber p h = years_all none collapses.CitationNumber p h
+  by_all none collapses.Year p h = years_all none collapses.Year p h
+  by_all none collapses.YearSuffix p h = years_all none collapses.YearSuffix p h
+  by_all none collapses.YearSuffixRanged p h = suffixes_all (year_block c none collapses.YearSuffixRanged p) (years_all none collapses.YearSuffixRanged p h)
 
   uncollapsed_all : (bs : List (List (Gathered X))) → AllByRecursion (AllByRecursion P) bs → AllByRecursion IsOne (flat_map (uncollapsed_block c) bs)
   uncollapsed_all bs h = flat_all IsOne (uncollapsed_block c) bs (weaker_all (AllByRecursion P) (λ b. AllByRecursion IsOne (uncollapsed_block c b)) block_all bs h)
 
-  each_year : (mode : Collapse) (bs : List (List (Gathered X))) → AllByRecursion (AllByRecursion P) bs → AllByRecursion IsOne (years_collapsed c mode bs)
-  each_year mode bs h =
+  each_year : (none : Bool) (mode : Collapse) (bs : List (List (Gathered X))) → AllByRecursion (AllByRecursion P) bs → AllByRecursion IsOne (years_collapsed c none mode bs)
+  each_year none mode bs h =
       let tested = with_previous_test has_later bs in
-      flat_all IsOne (block_by c mode) tested
-      (weaker_all (λ (p : Bool × List (Gathered X)). AllByRecursion P p.1) (λ p. AllByRecursion IsOne (block_by c mode p)) (by_all mode) tested (tested_each P has_later bs h))
+      flat_all IsOne (block_by c none mode) tested
+      (weaker_all (λ (p : Bool × List (Gathered X)). AllByRecursion P p.1) (λ p. AllByRecursion IsOne (block_by c none mode p)) (by_all none mode) tested (tested_each P has_later bs h))
 
   collapsed_all : (mode : Option Collapse) (bs : List (List (Gathered X))) → AllByRecursion (AllByRecursion P) bs → AllByRecursion IsOne (collapsed c mode bs)
   collapsed_all None bs h = uncollapsed_all bs h
   collapsed_all (Some collapses.CitationNumber) bs h = numbers_all (flat_map (uncollapsed_block c) bs) (uncollapsed_all bs h)
-  collapsed_all (Some collapses.Year) bs h = each_year collapses.Year bs h
-  collapsed_all (Some collapses.YearSuffix) bs h = each_year collapses.YearSuffix bs h
-  collapsed_all (Some collapses.YearSuffixRanged) bs h = each_year collapses.YearSuffixRanged bs h
+  collapsed_all (Some collapses.Year) bs h = each_year c.repeats_no_years collapses.Year bs h
+  collapsed_all (Some collapses.YearSuffix) bs h = each_year c.repeats_no_years collapses.YearSuffix bs h
+  collapsed_all (Some collapses.YearSuffixRanged) bs h = each_year c.repeats_no_years collapses.YearSuffixRanged bs h
 
   -- whether two cites are of one block
   abbrev same : Gathered X → Gathered X → Bool

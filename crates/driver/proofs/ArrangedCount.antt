@@ -6,8 +6,9 @@ use Rattle.std.proofs.lemmas.List.Sums.{sum_by-append, sum_by-cons, sum_by_push}
 use Rattle.rendering_style.specs.Styles.{Citation}
 use Rattle.rendering_taxonomy.specs.declared.style.Collapse.{Collapse}
 use Rattle.rendering_taxonomy.specs.declared.style.Collapse.TheVariants as collapses
+use Rattle.driver_requests.specs.Suffixes.{Suffix}
 use Rattle.driver_blocks.specs.Blocks.{Gathered, blocks, gathered, gathers, inside_delimiter, is_of_block}
-use Rattle.driver_blocks.specs.Collapsing.{after_run, arranged, block_by, collapsed, continues, delimiter_after_collapsed, has_later, is_next_number, is_numbered, later, numbers_collapsed, suffixes_collapsed, uncollapsed, uncollapsed_block, with_previous_test, year_block}
+use Rattle.driver_blocks.specs.Collapsing.{after_run, arranged, block_by, collapsed, continues, delimiter_after_collapsed, has_later, is_next_number, is_numbered, last_suffix, later, later_cites, numbers_collapsed, suffixes_collapsed, uncollapsed, uncollapsed_block, with_previous_test, year_block}
 use Rattle.driver_blocks.specs.Runs.{Arranged, added_to_runs, collapsed_run, is_long, last_after_dash, runs_of}
 use Rattle.driver_blocks.specs.Views.{put_in, takes}
 use Rattle.driver_blocks.proofs.GatheredSteps.{block-last}
@@ -95,16 +96,23 @@ module _ {X : Type 0} (c : Citation) (w : Gathered X → ℕ) where
   count_block (x ∷ xs) =
       count_cons weight w (uncollapsed c.layout.delimiter x) x (map (uncollapsed (inside_delimiter c)) xs) xs refl (count_map weight w (uncollapsed (inside_delimiter c)) (λ y. refl) xs)
 
-  count_years : (mode : Collapse) (p : Bool × List (Gathered X)) → sum_by weight (year_block c mode p) ≡ sum_by w p.1
-  count_years mode (is_after, []) = refl
-  count_years mode (is_after, x ∷ xs) =
-      count_cons weight w (uncollapsed (cond is_after (delimiter_after_collapsed c) c.layout.delimiter) x) x (map (later c mode) xs) xs refl (count_map weight w (later c mode) (λ y. refl) xs)
+  count_later : (none : Bool) (mode : Collapse) (last : Option Suffix) (xs : List (Gathered X)) → sum_by weight (later_cites c none mode last xs) ≡ sum_by w xs
+  count_later none mode last [] = refl
+  count_later none mode last (x ∷ xs) =
+      let others = later_cites c none mode (last_suffix last x) xs in
+      count_cons weight w (later c none mode last x) x others xs refl (count_later none mode (last_suffix last x) xs)
 
-  count_mode : (mode : Collapse) (p : Bool × List (Gathered X)) → sum_by weight (block_by c mode p) ≡ sum_by w p.1
-  count_mode collapses.CitationNumber p = count_years collapses.CitationNumber p
-  count_mode collapses.Year p = count_years collapses.Year p
-  count_mode collapses.YearSuffix p = count_years collapses.YearSuffix p
-  count_mode collapses.YearSuffixRanged p = count_suffixes (year_block c collapses.YearSuffixRanged p) ∙ count_years collapses.YearSuffixRanged p
+  count_years : (none : Bool) (mode : Collapse) (p : Bool × List (Gathered X)) → sum_by weight (year_block c none mode p) ≡ sum_by w p.1
+  count_years none mode (is_after, []) = refl
+  count_years none mode (is_after, x ∷ xs) =
+      let others = later_cites c none mode (last_suffix None x) xs in
+      count_cons weight w (uncollapsed (cond is_after (delimiter_after_collapsed c) c.layout.delimiter) x) x others xs refl (count_later none mode (last_suffix None x) xs)
+
+  count_mode : (none : Bool) (mode : Collapse) (p : Bool × List (Gathered X)) → sum_by weight (block_by c none mode p) ≡ sum_by w p.1
+  count_mode none collapses.CitationNumber p = count_years none collapses.CitationNumber p
+  count_mode none collapses.Year p = count_years none collapses.Year p
+  count_mode none collapses.YearSuffix p = count_years none collapses.YearSuffix p
+  count_mode none collapses.YearSuffixRanged p = count_suffixes (year_block c none collapses.YearSuffixRanged p) ∙ count_years none collapses.YearSuffixRanged p
 
   count_uncollapsed : (bs : List (List (Gathered X))) → sum_by weight (flat_map (uncollapsed_block c) bs) ≡ sum_by w (flattened bs)
   count_uncollapsed bs = count_each weight w (uncollapsed_block c) (λ ys. ys) count_block bs
@@ -112,9 +120,9 @@ module _ {X : Type 0} (c : Citation) (w : Gathered X → ℕ) where
   count_collapsed : (mode : Option Collapse) (bs : List (List (Gathered X))) → sum_by weight (collapsed c mode bs) ≡ sum_by w (flattened bs)
   count_collapsed None bs = count_uncollapsed bs
   count_collapsed (Some collapses.CitationNumber) bs = count_numbers (flat_map (uncollapsed_block c) bs) ∙ count_uncollapsed bs
-  count_collapsed (Some collapses.Year) bs = count_tested weight w has_later (block_by c collapses.Year) (count_mode collapses.Year) bs
-  count_collapsed (Some collapses.YearSuffix) bs = count_tested weight w has_later (block_by c collapses.YearSuffix) (count_mode collapses.YearSuffix) bs
-  count_collapsed (Some collapses.YearSuffixRanged) bs = count_tested weight w has_later (block_by c collapses.YearSuffixRanged) (count_mode collapses.YearSuffixRanged) bs
+  count_collapsed (Some collapses.Year) bs = count_tested weight w has_later (block_by c c.repeats_no_years collapses.Year) (count_mode c.repeats_no_years collapses.Year) bs
+  count_collapsed (Some collapses.YearSuffix) bs = count_tested weight w has_later (block_by c c.repeats_no_years collapses.YearSuffix) (count_mode c.repeats_no_years collapses.YearSuffix) bs
+  count_collapsed (Some collapses.YearSuffixRanged) bs = count_tested weight w has_later (block_by c c.repeats_no_years collapses.YearSuffixRanged) (count_mode c.repeats_no_years collapses.YearSuffixRanged) bs
 
   -- whether two cites are of one block
   abbrev same : Gathered X → Gathered X → Bool

@@ -6,8 +6,9 @@ use Rattle.std.proofs.lemmas.List.{drop-map, length-map, map-append, take-map}
 use Rattle.rendering_style.specs.Styles.{Citation}
 use Rattle.rendering_taxonomy.specs.declared.style.Collapse.{Collapse}
 use Rattle.rendering_taxonomy.specs.declared.style.Collapse.TheVariants as collapses
+use Rattle.driver_requests.specs.Suffixes.{Suffix}
 use Rattle.driver_blocks.specs.Blocks.{Gathered, blocks, gathered, gathered_at, gathers, inside_delimiter, is_of_block}
-use Rattle.driver_blocks.specs.Collapsing.{after_run, arranged, block_by, collapsed, continues, delimiter_after_collapsed, has_later, is_next_number, is_numbered, later, numbers_collapsed, suffixes_collapsed, uncollapsed, uncollapsed_block, with_previous_test, year_block, years_collapsed}
+use Rattle.driver_blocks.specs.Collapsing.{after_run, arranged, block_by, collapsed, continues, delimiter_after_collapsed, has_later, is_next_number, is_numbered, last_suffix, later, later_cites, numbers_collapsed, suffixes_collapsed, uncollapsed, uncollapsed_block, with_previous_test, year_block, years_collapsed}
 use Rattle.driver_blocks.specs.Runs.{Arranged, added_to_runs, collapsed_run, is_long, last_after_dash, runs_of}
 use Rattle.driver.specs.Renaming.{arranged_as, gathered_as}
 use Rattle.driver.proofs.Maps.{any_map, enumerate_map, placed}
@@ -127,24 +128,26 @@ module _ {X Y : Type 0} (f : X → Y) (c : Citation) where
   block_uncollapsed [] = refl
   block_uncollapsed (x ∷ xs) = ap (λ ys. uncollapsed c.layout.delimiter (gathered_as f x) ∷ ys) (each_uncollapsed (inside_delimiter c) xs)
 
-  each_later : (mode : Collapse) (xs : List (Gathered X)) → map (later c mode) (map (gathered_as f) xs) ≡ map (arranged_as f) (map (later c mode) xs)
-  each_later mode [] = refl
-  each_later mode (x ∷ xs) = ap (λ ys. later c mode (gathered_as f x) ∷ ys) (each_later mode xs)
+  each_later : (none : Bool) (mode : Collapse) (last : Option Suffix) (xs : List (Gathered X)) → later_cites c none mode last (map (gathered_as f) xs) ≡ map (arranged_as f) (later_cites c none mode last xs)
+  each_later none mode last [] = refl
+  each_later none mode last (x ∷ xs) = ap (λ ys. later c none mode last (gathered_as f x) ∷ ys) (each_later none mode (last_suffix last x) xs)
 
-  years_block : (mode : Collapse) (p : Bool × List (Gathered X)) → year_block c mode (tested (gathered_as f) p) ≡ map (arranged_as f) (year_block c mode p)
-  years_block mode (is_after, []) = refl
-  years_block mode (is_after, x ∷ xs) = ap (λ ys. uncollapsed (if is_after then delimiter_after_collapsed c else c.layout.delimiter) (gathered_as f x) ∷ ys) (each_later mode xs)
+  years_block : (none : Bool) (mode : Collapse) (p : Bool × List (Gathered X)) → year_block c none mode (tested (gathered_as f) p) ≡ map (arranged_as f) (year_block c none mode p)
+  years_block none mode (is_after, []) = refl
+  years_block none mode (is_after, x ∷ xs) =
+      ap (λ ys. uncollapsed (if is_after then delimiter_after_collapsed c else c.layout.delimiter) (gathered_as f x) ∷ ys) (each_later none mode (last_suffix None x) xs)
 
-  block_renamed : (mode : Collapse) (p : Bool × List (Gathered X)) → block_by c mode (tested (gathered_as f) p) ≡ map (arranged_as f) (block_by c mode p)
-  block_renamed collapses.CitationNumber p = years_block collapses.CitationNumber p
-  block_renamed collapses.Year p = years_block collapses.Year p
-  block_renamed collapses.YearSuffix p = years_block collapses.YearSuffix p
-  block_renamed collapses.YearSuffixRanged p = ap suffixes_collapsed (years_block collapses.YearSuffixRanged p) ∙ suffixes_renamed (year_block c collapses.YearSuffixRanged p)
+  block_renamed : (none : Bool) (mode : Collapse) (p : Bool × List (Gathered X)) → block_by c none mode (tested (gathered_as f) p) ≡ map (arranged_as f) (block_by c none mode p)
+  block_renamed none collapses.CitationNumber p = years_block none collapses.CitationNumber p
+  block_renamed none collapses.Year p = years_block none collapses.Year p
+  block_renamed none collapses.YearSuffix p = years_block none collapses.YearSuffix p
+  block_renamed none collapses.YearSuffixRanged p =
+      ap suffixes_collapsed (years_block none collapses.YearSuffixRanged p) ∙ suffixes_renamed (year_block c none collapses.YearSuffixRanged p)
 
-  years_renamed : (mode : Collapse) (bs : List (List (Gathered X))) → years_collapsed c mode (map (map (gathered_as f)) bs) ≡ map (arranged_as f) (years_collapsed c mode bs)
-  years_renamed mode bs =
-      ap (flat_map (block_by c mode)) (tests_renamed (gathered_as f) has_later has_later (later_renamed (gathered_as f)) bs)
-      ∙ flat_both (tested (gathered_as f)) (arranged_as f) (block_by c mode) (block_by c mode) (block_renamed mode) (with_previous_test has_later bs)
+  years_renamed : (none : Bool) (mode : Collapse) (bs : List (List (Gathered X))) → years_collapsed c none mode (map (map (gathered_as f)) bs) ≡ map (arranged_as f) (years_collapsed c none mode bs)
+  years_renamed none mode bs =
+      ap (flat_map (block_by c none mode)) (tests_renamed (gathered_as f) has_later has_later (later_renamed (gathered_as f)) bs)
+      ∙ flat_both (tested (gathered_as f)) (arranged_as f) (block_by c none mode) (block_by c none mode) (block_renamed none mode) (with_previous_test has_later bs)
 
   uncollapsed_renamed : (bs : List (List (Gathered X))) → flat_map (uncollapsed_block c) (map (map (gathered_as f)) bs) ≡ map (arranged_as f) (flat_map (uncollapsed_block c) bs)
   uncollapsed_renamed bs = flat_both (map (gathered_as f)) (arranged_as f) (uncollapsed_block c) (uncollapsed_block c) block_uncollapsed bs
@@ -152,9 +155,9 @@ module _ {X Y : Type 0} (f : X → Y) (c : Citation) where
   collapsed_renamed : (mode : Option Collapse) (bs : List (List (Gathered X))) → collapsed c mode (map (map (gathered_as f)) bs) ≡ map (arranged_as f) (collapsed c mode bs)
   collapsed_renamed None bs = uncollapsed_renamed bs
   collapsed_renamed (Some collapses.CitationNumber) bs = ap (numbers_collapsed c) (uncollapsed_renamed bs) ∙ numbers_renamed (flat_map (uncollapsed_block c) bs)
-  collapsed_renamed (Some collapses.Year) bs = years_renamed collapses.Year bs
-  collapsed_renamed (Some collapses.YearSuffix) bs = years_renamed collapses.YearSuffix bs
-  collapsed_renamed (Some collapses.YearSuffixRanged) bs = years_renamed collapses.YearSuffixRanged bs
+  collapsed_renamed (Some collapses.Year) bs = years_renamed c.repeats_no_years collapses.Year bs
+  collapsed_renamed (Some collapses.YearSuffix) bs = years_renamed c.repeats_no_years collapses.YearSuffix bs
+  collapsed_renamed (Some collapses.YearSuffixRanged) bs = years_renamed c.repeats_no_years collapses.YearSuffixRanged bs
 
   blocks_renamed : (xs : List (Gathered X)) → blocks c (map (gathered_as f) xs) ≡ map (map (gathered_as f)) (blocks c xs)
   blocks_renamed xs =

@@ -33,7 +33,7 @@ use Rattle.driver_blocks.specs.Runs.{Arranged}
 use Rattle.driver_bibliography.specs.Items.{items_of}
 use Rattle.driver_citations.specs.Citations.{citation_of}
 use Rattle.driver_rounds.specs.Documents.{Document, order_in}
-use Rattle.driver.specs.Finish.{citation_in, finish, is_final_of, item_of_cite, item_of_entry, item_properties, rendered_from, shown}
+use Rattle.driver.specs.Finish.{citation_in, finish, is_final_of, item_of_cite, item_of_entry, item_properties, printed_item, rendered_from, shown}
 use Rattle.driver.specs.Renaming.{arranged_as, gathered_as}
 use Rattle.driver.specs.Stages.{Final, arranged_for, cite_of, final, finals_in, first_print_of, gathered_by, has_purpose, located, state_for, printed_at_last}
 use Rattle.driver_rounds.specs.FirstPrints.{FirstPrint, candidate, disambiguated_in, first_naming, first_print, first_prints_in, first_states_in, flattened, has_suffix_date, kept_where, named_after, numbered_after, numbered_in, printed_by, printed_undisambiguated, printed_with, purpose_at_first, repeats_by, ruled_states, with_first_names}
@@ -176,7 +176,7 @@ module _ {P : Type 0} (answers : ℕ → Answers) where
   module _ (d : Document P) where
     item_alike : (f : Final P) → IsListedAlike d.bibliography_context f → item_of_cite (document_with answers d) (final_with f) ≡ item_of_cite d f
     item_alike f h =
-        ap (option_map (λ (r : purposes.Rendered). r.tree)) (sym (items_alike d.bibliography_context (cite_of f).item.entry.answers (answers (entry_of (cite_of f))) (item_properties f) None h))
+        ap (option_map printed_item) (sym (items_alike d.bibliography_context (cite_of f).item.entry.answers (answers (entry_of (cite_of f))) (item_properties f) None h))
 
     found_alike : (b : Bool) (f : Final P) (one other : Option (Final P)) → IsListedAlike d.bibliography_context f → option_and_then (item_of_cite (document_with answers d)) one ≡ option_and_then (item_of_cite d) other
         → option_and_then (item_of_cite (document_with answers d)) (cond b (Some (final_with f)) one) ≡ option_and_then (item_of_cite d) (cond b (Some f) other)

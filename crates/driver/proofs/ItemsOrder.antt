@@ -6,7 +6,7 @@ use Rattle.std.specs.List.{AllByRecursion, enumerate_from, flat_map, last_or, li
 use Rattle.std.specs.Option.{option_map}
 use Rattle.std.proofs.lemmas.List.Folds.{list_any-append}
 use Rattle.rendering_style.specs.Styles.{Bibliography}
-use Rattle.rendering.specs.Purposes.{Rendered, bibliography}
+use Rattle.rendering.specs.Purposes.{bibliography}
 use Rattle.driver_requests.specs.Cites.{Cite, cite_at, cites_after, entry_of}
 use Rattle.driver_requests.specs.Order.{cited, is_index_in}
 use Rattle.driver_requests.specs.Positions.{with_previous}
@@ -16,7 +16,7 @@ use Rattle.driver_disambiguation.specs.Rounds.{Disambiguation}
 use Rattle.driver_blocks.specs.Blocks.{Gathered}
 use Rattle.driver_blocks.specs.Runs.{Arranged}
 use Rattle.driver_rounds.specs.Documents.{Document, order_in}
-use Rattle.driver.specs.Finish.{is_final_of, item_of_cite, item_properties}
+use Rattle.driver.specs.Finish.{is_final_of, item_of_cite, item_properties, printed_item}
 use Rattle.driver.specs.Stages.{finals_of, Final, arranged_for, final, gathered_by, has_purpose}
 use Rattle.driver_rounds.specs.FirstPrints.{FirstPrint, disambiguated_in, entry_of_first, first_print, first_prints_in, flattened, named_after}
 use Rattle.driver.proofs.ArrangedCount.{arranged_any}
@@ -148,6 +148,6 @@ module _ {P : Type 0} (d : Document P) where
 
     pub item_there : (b : Bibliography) (f : Final P) → d.bibliography_context.style.bibliography ≡ Some b → is_some (item_of_cite d f) ≡ true
     item_there b f e =
-        map_some (λ (r : Rendered). r.tree) (bibliography d.bibliography_context f.arranged.cite.cite.numbered.cite.item.entry.answers (item_properties f) None)
+        map_some printed_item (bibliography d.bibliography_context f.arranged.cite.cite.numbered.cite.item.entry.answers (item_properties f) None)
         ∙ map_some _ d.bibliography_context.style.bibliography
         ∙ ap is_some e

@@ -5,7 +5,7 @@ use Rattle.std.specs.List.{AllByRecursion, cons_option, enumerate_from, flat_map
 use Rattle.std.specs.Option.{option_and_then, option_map}
 use Rattle.rendering_entries.specs.Answers.{Answers}
 use Rattle.rendering_style.specs.Styles.{Bibliography}
-use Rattle.rendering_tree.specs.Trees.{Children}
+use Rattle.driver_bibliography.specs.Substitution.{Printed}
 use Rattle.driver_requests.specs.Cites.{Cite, cite_at, cites_after}
 use Rattle.driver_requests.specs.Requests.{Item, Request, cites_entry}
 use Rattle.driver_blocks.specs.Runs.{Arranged}
@@ -42,7 +42,7 @@ module _ {P : Type 0} (d : Document P) (table : ℕ → Option Answers) where
 
   -- the key of the entry of a cite, where the bibliography prints it
   abbrev pub key_final : Final P → Option (List ℕ)
-  key_final f = option_map (λ (t : Children). (cite_of f).item.entry.answers.key) (item_of_cite d f)
+  key_final f = option_map (λ (t : Printed). (cite_of f).item.entry.answers.key) (item_of_cite d f)
 
   module _ (h : AllByRecursion IsInTable (flat_map (λ (r : Request P). r.items) d.requests)) where
     key_of_item : (entry_index : ℕ) (o : Option (Item P)) → find (cites_entry entry_index) (flat_map (λ (r : Request P). r.items) d.requests) ≡ o → is_some o ≡ true → option_map (λ (i : Item P). i.entry.answers.key) o ≡ option_map (λ (a : Answers). a.key) (table entry_index)
@@ -98,7 +98,7 @@ module _ {P : Type 0} (d : Document P) (table : ℕ → Option Answers) where
           let found = found_all FinalOfTable (is_final_of entry_index) (finals_of same d) f finals_there e in
           key_there f (item_of_cite d f) (item_there d same b f is) ∙ sym (ap (option_map (λ (a : Answers). a.key)) (ap table (sym (eqb-true (cite_of f).item.entry.index entry_index found.1)) ∙ found.0))
         where
-          key_there : (f : Final P) (o : Option Children) → is_some o ≡ true → option_map (λ (t : Children). (cite_of f).item.entry.answers.key) o ≡ Some (cite_of f).item.entry.answers.key
+          key_there : (f : Final P) (o : Option Printed) → is_some o ≡ true → option_map (λ (t : Printed). (cite_of f).item.entry.answers.key) o ≡ Some (cite_of f).item.entry.answers.key
           key_there f None k = absurd (true≢false (sym k))
           key_there f (Some t) k = refl
 

@@ -13,7 +13,7 @@ use Rattle.rendering_context.specs.declared.cite.DisambiguateState.{Disambiguate
 use Rattle.rendering_context.specs.Contexts.{StyleContext}
 use Rattle.rendering_entries.specs.Answers.{Answers}
 use Rattle.rendering_style.specs.Styles as styles
-use Rattle.rendering_tree.specs.Trees.{Children}
+use Rattle.driver_bibliography.specs.Substitution.{Printed}
 use Rattle.driver_disambiguation.specs.States.{state_of}
 use Rattle.driver.specs.FinalPrints.{Listed, first_listed, listed_as, listed_view}
 use Rattle.driver.specs.Finish.{is_final_of}
@@ -28,7 +28,7 @@ consed None bs cs = ap (λ ds. ds ++ cs) (sym (append-nil bs))
 consed (Some b) bs cs = sym (append_assoc bs (b ∷ []) cs)
 
 -- the bibliography of what is printed of entries in a context
-pub bibliography_in : {E : Type 0} (r : Result RenderedBibliography E) (s : styles.Bibliography) (ts : List Children) (x y : StyleContext) (ls : List (Option Listed)) (order : List ℕ)
+pub bibliography_in : {E : Type 0} (r : Result RenderedBibliography E) (s : styles.Bibliography) (ts : List Printed) (x y : StyleContext) (ls : List (Option Listed)) (order : List ℕ)
     → IfOk r (λ b. rendered_bibliography_view b ≡ bibliography_from s ts) → ts ≡ trees_listed x ls order → x ≡ y → IfOk r (λ b. rendered_bibliography_view b ≡ bibliography_from s (trees_listed y ls order))
 bibliography_in r s ts x y ls order is at same = subst (λ us. IfOk r (λ b. rendered_bibliography_view b ≡ bibliography_from s us)) (at ∙ ap (λ z. trees_listed z ls order) same) is
 

@@ -5,7 +5,7 @@ use Rattle.std.specs.Option.{option_map, option_map_or, option_and_then}
 use Rattle.rendering_tree.specs.Trees.{Children}
 use Rattle.rendering_style.specs.Styles.{Bibliography}
 use Rattle.rendering_context.specs.Cites.{CiteProperties}
-use Rattle.rendering.specs.Purposes.{bibliography}
+use Rattle.rendering.specs.Purposes.{Rendered as Rendering, bibliography}
 use Rattle.rendering.specs.Words.{joining_quotes}
 use Rattle.driver_requests.specs.Errors.{Overflow, overflow}
 use Rattle.driver_requests.specs.Requests.{Request, cites_entry}
@@ -13,6 +13,7 @@ use Rattle.driver_requests.specs.Order.{cited, numbers_overflow}
 use Rattle.driver_disambiguation.specs.States.{suffixes_overflow}
 use Rattle.driver_disambiguation.specs.Rounds.{Disambiguation}
 use Rattle.driver_bibliography.specs.Items.{Fields, items_of}
+use Rattle.driver_bibliography.specs.Substitution.{Printed}
 use Rattle.driver_citations.specs.Citations.{Shown, citation_of}
 use Rattle.driver_rounds.specs.Documents.{Document, order_in, items_count}
 use Rattle.driver_rounds.specs.FirstPrints.{FirstPrint, flattened, first_prints_in, disambiguated_in, first_naming}
@@ -62,16 +63,20 @@ is_final_of index f = (cite_of f).item.entry.index == index
 abbrev pub item_properties : {P : Type 0} → Final P → CiteProperties
 item_properties f = record f.properties { identifier_usage = (first_print_of f.arranged).rendered.usage }
 
+-- what is printed of an item, of what a call gives
+abbrev pub printed_item : Rendering → Printed
+printed_item r = record { tree = r.tree; names = r.first_names }
+
 -- the item of a bibliography for the entry of a cite, with that cite's properties; the cite is the entry's first in the final order
-abbrev pub item_of_cite : {P : Type 0} → Document P → Final P → Option Children
-item_of_cite d f = option_map (λ r. r.tree) (bibliography d.bibliography_context (cite_of f).item.entry.answers (item_properties f) None)
+abbrev pub item_of_cite : {P : Type 0} → Document P → Final P → Option Printed
+item_of_cite d f = option_map printed_item (bibliography d.bibliography_context (cite_of f).item.entry.answers (item_properties f) None)
 
 -- the item of the entry at an index, by its first cite
-abbrev pub item_of_entry : {P : Type 0} → Document P → List (Final P) → ℕ → Option Children
+abbrev pub item_of_entry : {P : Type 0} → Document P → List (Final P) → ℕ → Option Printed
 item_of_entry d fs index = option_and_then (item_of_cite d) (find (is_final_of index) fs)
 
 -- what the bibliography prints of the cited entries, in their order
-abbrev pub item_trees : {P : Type 0} → Document P → List (Final P) → List Children
+abbrev pub item_trees : {P : Type 0} → Document P → List (Final P) → List Printed
 item_trees d fs = filter_map (item_of_entry d fs) (order_in d)
 
 -- the items of the bibliography

@@ -4,27 +4,27 @@ use Rattle.std.specs.Borrow.{Bor}
 use Rattle.std.specs.Option.{option_and_then, option_map, option_map_or}
 use Rattle.rendering_context.specs.Cites.{DisambiguateState}
 use Rattle.rendering_entries.specs.Answers.{Answers}
-use Rattle.rendering_tree.specs.Trees.{Children}
 use Rattle.rendering_style.specs.Styles.{Bibliography}
 use Rattle.rendering_context.specs.Contexts.{StyleContext}
 use Rattle.rendering.specs.Purposes.{bibliography}
 use Rattle.driver_requests.specs.Requests.{Request}
 use Rattle.driver_bibliography.specs.Items.{items_of}
+use Rattle.driver_bibliography.specs.Substitution.{Printed}
 use Rattle.driver.specs.FinalPrints.{Listed, first_listed}
-use Rattle.driver.specs.Finish.{Rendered, RenderedBibliography, citation_in}
+use Rattle.driver.specs.Finish.{Rendered, RenderedBibliography, citation_in, printed_item}
 use Rattle.driver.specs.Stages.{Final}
 use Rattle.driver_rounds.specs.FirstPrints.{flattened}
 use Rattle.driver_rounds.specs.Views.{properties_with}
 use Rattle.driver.specs.declared.final_prints.ListedCite.{ListedCite}
 
--- the bibliography from the trees of its items
-abbrev pub bibliography_from : Bibliography → List Children → RenderedBibliography
-bibliography_from b trees = record {
+-- the bibliography from what is printed of its items
+abbrev pub bibliography_from : Bibliography → List Printed → RenderedBibliography
+bibliography_from b ps = record {
   hanging_indent = b.hanging_indent;
   second_field_align = b.second_field_align;
   line_spacing = b.line_spacing;
   entry_spacing = b.entry_spacing;
-  items = items_of b trees;
+  items = items_of b ps;
 }
 
 -- the keys of entries that are borrowed
@@ -40,20 +40,20 @@ listed_in_state answers state l = record {
 }
 
 -- what the bibliography prints of an entry, where there is one
-abbrev pub item_listed : StyleContext → Listed → Option Children
-item_listed x l = option_map (λ r. r.tree) (bibliography x l.answers l.properties None)
+abbrev pub item_listed : StyleContext → Listed → Option Printed
+item_listed x l = option_map printed_item (bibliography x l.answers l.properties None)
 
 -- what the bibliography prints of the entry at an index, where it is listed
-abbrev pub item_at : StyleContext → List (Option Listed) → ℕ → Option Children
+abbrev pub item_at : StyleContext → List (Option Listed) → ℕ → Option Printed
 item_at x ls index = option_and_then (item_listed x) (slice_index_or ls index None)
 
 -- what the bibliography prints of entries in that order
-abbrev pub trees_listed : StyleContext → List (Option Listed) → List ℕ → List Children
+abbrev pub trees_listed : StyleContext → List (Option Listed) → List ℕ → List Printed
 trees_listed x ls order = filter_map (item_at x ls) order
 
 -- the key of an entry, where the bibliography prints this
 abbrev pub key_printed : StyleContext → Listed → Option (List ℕ)
-key_printed x l = option_map (λ (t : Children). l.answers.key) (item_listed x l)
+key_printed x l = option_map (λ (p : Printed). l.answers.key) (item_listed x l)
 
 -- the key of the entry at an index, where it is listed and the bibliography prints it
 abbrev pub key_listed_at : StyleContext → List (Option Listed) → ℕ → Option (List ℕ)
@@ -68,7 +68,7 @@ abbrev pub AreAtIndices : List (Option Listed) → Type 0
 AreAtIndices ls = (index : ℕ) → IfSome (slice_index_or ls index None) (λ l. l.index ≡ index)
 
 -- the entry at an index, in the bibliography
-abbrev pub item_first : {P : Type 0} → StyleContext → List (Final P) → ℕ → Option Children
+abbrev pub item_first : {P : Type 0} → StyleContext → List (Final P) → ℕ → Option Printed
 item_first x fs index = option_and_then (item_listed x) (first_listed fs index)
 
 -- the key of the entry at an index, where the bibliography prints this

@@ -3,31 +3,31 @@
 ghost use Rattle.std.specs.Prelude.{◌≡◌, length, map, string_bytes, IfOk};
 ghost use Rattle.std.specs.Option.{option_and_then, option_map};
 ghost use Rattle.rendering_style.specs.Views.{bibliography_layout_view};
-ghost use Rattle.rendering_tree.specs.Views.{child_view, element_view, tree_view};
-ghost use Rattle.driver_bibliography.specs.Views.{fields_view};
+ghost use Rattle.rendering_tree.specs.Views.{child_view, element_view};
+ghost use Rattle.driver_bibliography.specs.Views.{fields_view, printed_view};
 ghost use Rattle.driver.specs.Listing.{bibliography_from, keys_of};
 ghost use Rattle.driver.specs.RenderedViews.{rendered_bibliography_view, element_if, item_fields_view, key_view};
 
 use crate::rendered::{BibliographyItem, RenderedBibliography};
-use driver_bibliography::{ItemFields, items};
+use driver_bibliography::{ItemFields, PrintedItem, items};
 use rendering_entries::EntryLike;
 use rendering_style::Bibliography;
-use rendering_tree::{Elem, ElemChild, ElemChildren};
+use rendering_tree::{Elem, ElemChild};
 use std::alloc::{AllocError, Global};
 
 /// The bibliography from what its style prints of each of some entries.
 pub(crate) fn bibliography_of<T: EntryLike>(
     alloc: Global,
     style: &Bibliography,
-    trees: Vec<ElemChildren>,
+    printed: Vec<PrintedItem>,
     entries: &[&T],
 ) -> Result<RenderedBibliography, AllocError>
-    requires { length entries.now ≡ length trees.items }
+    requires { length entries.now ≡ length printed.items }
     ensures bibliography { IfOk result (λ b. rendered_bibliography_view b
-        ≡ bibliography_from (bibliography_layout_view style.now) (map tree_view trees.items)) }
+        ≡ bibliography_from (bibliography_layout_view style.now) (map printed_view printed.items)) }
     ensures keys { IfOk result (λ b. map key_view b.items.items ≡ keys_of T.answers entries.now) }
 {
-    let fields = items(alloc, style, trees)?;
+    let fields = items(alloc, style, printed)?;
     let items = with_keys(alloc, fields, entries)?;
     Ok(RenderedBibliography {
         hanging_indent: style.hanging_indent,

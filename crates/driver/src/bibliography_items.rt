@@ -2,10 +2,11 @@
 
 ghost use Rattle.std.specs.Prelude.{◌≡◌, ◌+◌, ◌<◌, ◌≤◌, ◌++◌, All, length, map, option_to_list, IfOk, OnOk};
 ghost use Rattle.std.specs.Option.{option_and_then, option_map, option_map_or};
-ghost use Rattle.rendering.specs.Views.{style_context_view};
+ghost use Rattle.rendering.specs.Views.{rendering_view, style_context_view};
+ghost use Rattle.driver.specs.Finish.{printed_item};
 ghost use Rattle.rendering_context.specs.Views.{state_view};
 ghost use Rattle.rendering_style.specs.Views.{bibliography_layout_view};
-ghost use Rattle.rendering_tree.specs.Views.{tree_view};
+ghost use Rattle.driver_bibliography.specs.Views.{printed_view};
 ghost use Rattle.driver.specs.FinalPrints.{listed_view};
 ghost use Rattle.driver.specs.Listing.{bibliography_from, item_listed, key_printed, keys_listed, keys_of, listed_in_state, AreAtIndices, trees_listed};
 ghost use Rattle.driver.specs.RenderedViews.{rendered_bibliography_view, keys_view};
@@ -14,18 +15,18 @@ ghost use Rattle.driver_rounds.specs.Views.{bibliography_context_of};
 use crate::bibliography::bibliography_of;
 use crate::final_prints::ListedCite;
 use crate::rendered::RenderedBibliography;
+use driver_bibliography::PrintedItem;
 use driver_requests::BibliographyRequest;
-use rendering::{Effort, StyleContext};
+use rendering::{Effort, Rendering, StyleContext};
 use rendering_context::DisambiguateState;
 use rendering_entries::EntryLike;
 use rendering_style::Bibliography;
-use rendering_tree::ElemChildren;
 use std::alloc::{AllocError, Global};
 
 /// What is printed of entries, and of which ones.
 #[derive(Drop)]
 struct ListedItems<'r, T> {
-    trees: Vec<ElemChildren>,
+    trees: Vec<PrintedItem>,
     entries: Vec<&'r T>,
 }
 
@@ -119,7 +120,7 @@ fn listed_items<'r, T: EntryLike>(
     requires listed { length listed.now ≡ length states.now }
     requires own { AreAtIndices
         (map (option_map (listed_view T.answers (map state_view states.now))) listed.now) }
-    ensures trees { IfOk result (λ i. map tree_view i.trees.items
+    ensures trees { IfOk result (λ i. map printed_view i.trees.items
         ≡ trees_listed (style_context_view context.now) (map
         (option_map (listed_view T.answers (map state_view states.now))) listed.now) order.now) }
     ensures entries { IfOk result (λ i. length i.entries.items ≡ length i.trees.items) }
@@ -149,11 +150,11 @@ fn push_item<'r, T: EntryLike>(
     context: &StyleContext<'_>,
     listed: &Option<ListedCite<'r, '_, T>>,
     state: &DisambiguateState,
-    trees: &mut Vec<ElemChildren>,
+    trees: &mut Vec<PrintedItem>,
     entries: &mut Vec<&'r T>,
     effort: &mut Effort,
 ) -> Result<(), AllocError>
-    ensures trees { OnOk result (map tree_view trees.new.items ≡ map tree_view trees.old.items
+    ensures trees { OnOk result (map printed_view trees.new.items ≡ map printed_view trees.old.items
         ++ option_to_list (option_and_then (item_listed (style_context_view context.now))
         (option_map (listed_in_state T.answers (state_view state.now)) listed.now))) }
     ensures entries { OnOk result (length entries.old.items ≡ length trees.old.items
@@ -177,18 +178,18 @@ fn push_item<'r, T: EntryLike>(
 
 /// Appends what is printed of an entry, if anything is.
 fn push_printed<'r, T: EntryLike>(
-    printed: Option<ElemChildren>,
+    printed: Option<PrintedItem>,
     entry: &'r T,
-    trees: &mut Vec<ElemChildren>,
+    trees: &mut Vec<PrintedItem>,
     entries: &mut Vec<&'r T>,
 ) -> Result<(), AllocError>
-    ensures trees { OnOk result (map tree_view trees.new.items
-        ≡ map tree_view trees.old.items ++ option_to_list (option_map tree_view printed)) }
+    ensures trees { OnOk result (map printed_view trees.new.items
+        ≡ map printed_view trees.old.items ++ option_to_list (option_map printed_view printed)) }
     ensures entries { OnOk result (length entries.old.items ≡ length trees.old.items
         → length entries.new.items ≡ length trees.new.items) }
     ensures keys { OnOk result (keys_of T.answers entries.new.items
         ≡ keys_of T.answers entries.old.items ++ option_to_list
-        (option_map (λ t. (T.answers entry.now).key) (option_map tree_view printed))) }
+        (option_map (λ t. (T.answers entry.now).key) (option_map printed_view printed))) }
 {
     if let Some(printed) = printed {
         trees.push(printed)?;
@@ -203,8 +204,8 @@ fn item_of<T: EntryLike>(
     listed: &ListedCite<'_, '_, T>,
     state: &DisambiguateState,
     effort: &mut Effort,
-) -> Result<Option<ElemChildren>, AllocError>
-    ensures item { IfOk result (λ t. option_map tree_view t
+) -> Result<Option<PrintedItem>, AllocError>
+    ensures item { IfOk result (λ t. option_map printed_view t
         ≡ item_listed (style_context_view context.now)
         (listed_in_state T.answers (state_view state.now) listed.now)) }
     ensures effort { effort.new ≤ effort.old + 1 }
@@ -213,7 +214,24 @@ fn item_of<T: EntryLike>(
         .cite
         .properties(state.clone()?, None, listed.ibid, listed.usage);
     match context.bibliography(listed.entry, &properties, None, effort)? {
-        Some(item) => Ok(Some(item.tree)),
+        Some(item) => Ok(Some(printed_item(item))),
         None => Ok(None),
+    }
+}
+
+/// What is printed of an item, of what a call gives.
+fn printed_item(item: Rendering) -> PrintedItem
+    ensures { printed_view result ≡ printed_item (rendering_view item) }
+{
+    let Rendering {
+        tree,
+        met_disambiguate: _,
+        names: _,
+        identifier_usage: _,
+        first_names,
+    } = item;
+    PrintedItem {
+        tree,
+        names: first_names,
     }
 }

@@ -5,20 +5,22 @@ use Rattle.std.specs.Prelude.{IfOk}
 use Rattle.std.specs.Option.{option_or}
 use Rattle.std.proofs.lemmas.List.{length-map, map-append}
 use Rattle.rendering_tree.specs.Parting.{taken, left}
-use Rattle.rendering_tree.specs.Trees.{Children, Element, Parted, simplified, names_element}
+use Rattle.rendering_tree.specs.Trees.{Children, Element, Parted, simplified}
 use Rattle.rendering_tree.specs.Views.{tree_view}
 use Rattle.rendering_tree.specs.declared.element.ElemChildren.{ElemChildren}
 use Rattle.driver_bibliography.specs.Items.{Fields, fields_by, fields_of}
-use Rattle.driver_bibliography.specs.Views.{fields_view, repeated_view, repeats_after}
+use Rattle.driver_bibliography.specs.Views.{fields_view, printed_view, repeated_view, repeats_after}
+use Rattle.driver_bibliography.specs.Substitution.{Printed}
+use Rattle.driver_bibliography.specs.declared.fields.PrintedItem.{PrintedItem}
 use Rattle.driver_bibliography.specs.declared.fields.ItemFields.{ItemFields}
 use Rattle.driver_bibliography.specs.declared.repeats.Repetition.{Repetition}
 use Rattle.rendering_taxonomy.specs.declared.style.SecondFieldAlign.{SecondFieldAlign}
 use Rattle.rendering_taxonomy.specs.declared.style.SubsequentAuthorSubstituteRule.{SubsequentAuthorSubstituteRule}
 
 -- something holds of each item
-pub repeats_long : (alone : Bool) (rule : SubsequentAuthorSubstituteRule) (last : Option Element) (trees : List Children) → length (repeats_after alone rule last trees) ≡ length trees
+pub repeats_long : (alone : Bool) (rule : SubsequentAuthorSubstituteRule) (last : Option Element) (items : List Printed) → length (repeats_after alone rule last items) ≡ length items
 repeats_long alone rule last [] = refl
-repeats_long alone rule last (item ∷ items) = ap suc (repeats_long alone rule (option_or (names_element item) last) items)
+repeats_long alone rule last (item ∷ items) = ap suc (repeats_long alone rule (option_or item.names last) items)
 
 -- items that were parted, and those that are left to be
 pub fields_go_on : (align : Option SecondFieldAlign) (items new : List ItemFields) (x : ElemChildren) (y : ItemFields) (rest whole : List ElemChildren) (all : List Fields) → whole ≡ x ∷ rest
@@ -35,8 +37,8 @@ pub fields_end : (align : Option SecondFieldAlign) (items : List ItemFields) (wh
 fields_end align items whole all none h = sym (append-nil (map fields_view items)) ∙ ap (λ xs. map fields_view items ++ map (fields_by align) (map tree_view xs)) (sym none) ∙ h
 
 -- what holds of items holds of as many
-pub as_many : (alone : Bool) (rule : SubsequentAuthorSubstituteRule) (rs : List Repetition) (trees : List ElemChildren) → map repeated_view rs ≡ repeats_after alone rule None (map tree_view trees) → length rs ≡ length trees
-as_many alone rule rs trees e = sym (length-map rs repeated_view) ∙ ap length e ∙ repeats_long alone rule None (map tree_view trees) ∙ length-map trees tree_view
+pub as_many : (alone : Bool) (rule : SubsequentAuthorSubstituteRule) (rs : List Repetition) (items : List PrintedItem) → map repeated_view rs ≡ repeats_after alone rule None (map printed_view items) → length rs ≡ length items
+as_many alone rule rs items e = sym (length-map rs repeated_view) ∙ ap length e ∙ repeats_long alone rule None (map printed_view items) ∙ length-map items printed_view
 
 -- the same of items that were made
 pub made_as : {E : Type 0} (r : Result (Vec ElemChildren Global) E) (before after : List Children) → before ≡ after → IfOk r (λ v. map tree_view v.items ≡ before) → IfOk r (λ v. map tree_view v.items ≡ after)

@@ -2,8 +2,9 @@
 use Rattle.std.proofs.Common.{◌≡◌, ℕ, false, List, [], ◌∷◌, map, codes, refl, Some, None}
 use Rattle.rendering_taxonomy.specs.Formats.{plain}
 use Rattle.rendering_tree.specs.Metas.{Names, Name, Number}
-use Rattle.rendering_tree.specs.Trees.{Child, Children, Text, Elem, nothing, before}
+use Rattle.rendering_tree.specs.Trees.{Child, Children, Text, Elem, nothing, before, names_element}
 use Rattle.rendering_tree.specs.Writing.{plain_text}
+use Rattle.driver_bibliography.specs.Substitution.{Printed}
 use Rattle.driver_bibliography.specs.Items.{all_substituted, fields_by}
 use Rattle.rendering_taxonomy.specs.declared.style.SecondFieldAlign.TheVariants as aligns
 use Rattle.rendering_taxonomy.specs.declared.style.SubsequentAuthorSubstituteRule.{SubsequentAuthorSubstituteRule}
@@ -28,9 +29,13 @@ item one two title =
 untitled : List ℕ → Children
 untitled title = before (Elem None (Some (Names [])) (before (words title) nothing)) nothing
 
+-- an item whose names are as they were before texts met
+printed : Children → Printed
+printed tree = record { tree = tree; names = names_element tree }
+
 -- the texts of items by a rule
 texts : SubsequentAuthorSubstituteRule → List Children → List (List ℕ)
-texts rule items = map plain_text (all_substituted false rule (Some (codes "---")) items)
+texts rule items = map plain_text (all_substituted false rule (Some (codes "---")) (map printed items))
 
 p : Children
 p = item (codes "Roe") (codes "Lee") (codes "P")
@@ -45,28 +50,28 @@ u : Children
 u = item (codes "Roe") (codes "Poe") (codes "U")
 
 complete_all : texts rules.CompleteAll (p ∷ s ∷ q ∷ []) ≡ codes "Roe and Lee. P" ∷ codes "---. S" ∷ codes "Roe and Poe. Q" ∷ []
-unfolding texts p s q item single words
+unfolding texts printed p s q item single words
 complete_all = refl
 
 complete_each : texts rules.CompleteEach (p ∷ s ∷ q ∷ []) ≡ codes "Roe and Lee. P" ∷ codes "--- and ---. S" ∷ codes "Roe and Poe. Q" ∷ []
-unfolding texts p s q item single words
+unfolding texts printed p s q item single words
 complete_each = refl
 
 partial_each : texts rules.PartialEach (p ∷ q ∷ u ∷ []) ≡ codes "Roe and Lee. P" ∷ codes "--- and Poe. Q" ∷ codes "--- and ---. U" ∷ []
-unfolding texts p q u item single words
+unfolding texts printed p q u item single words
 partial_each = refl
 
 partial_first : texts rules.PartialFirst (p ∷ s ∷ q ∷ []) ≡ codes "Roe and Lee. P" ∷ codes "--- and Lee. S" ∷ codes "--- and Poe. Q" ∷ []
-unfolding texts p s q item single words
+unfolding texts printed p s q item single words
 partial_first = refl
 
 substitutes : texts rules.PartialEach (untitled (codes "T") ∷ untitled (codes "T") ∷ untitled (codes "U") ∷ []) ≡ codes "T" ∷ codes "---" ∷ codes "U" ∷ []
-unfolding texts untitled words
+unfolding texts printed untitled words
 substitutes = refl
 
 -- items without names are passed over
 passed_over : texts rules.CompleteAll (p ∷ before (words (codes "N")) nothing ∷ s ∷ []) ≡ codes "Roe and Lee. P" ∷ codes "N" ∷ codes "---. S" ∷ []
-unfolding texts p s item single words
+unfolding texts printed p s item single words
 passed_over = refl
 
 -- an item that begins with its number

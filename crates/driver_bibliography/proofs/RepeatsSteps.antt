@@ -1,17 +1,17 @@
 -- How many names are the same, and what of the names of items one after the other repeats those before them.
-use Rattle.std.proofs.Common.{◌≡◌, ℕ, suc, ◌+◌, ◌<◌, ◌≤◌, ◌==◌, ◌&&◌, ◌⊎◌, ◌≢◌, inl, inr, Bool, true, false, cond, List, [], ◌∷◌, ◌++◌, append_assoc, append-nil, length, map, drop, get_or, refl, sym, ap, subst, ◌∙◌, arith, Option}
+use Rattle.std.proofs.Common.{Some, None, ◌≡◌, ℕ, suc, ◌+◌, ◌<◌, ◌≤◌, ◌==◌, ◌&&◌, ◌⊎◌, ◌≢◌, inl, inr, Bool, true, false, cond, List, [], ◌∷◌, ◌++◌, append_assoc, append-nil, length, map, drop, get_or, refl, sym, ap, subst, ◌∙◌, arith, Option}
 use Rattle.std.specs.Borrow.{Bor}
 use Rattle.std.proofs.lemmas.List.{get_or-map, length-map, drop_all, drop_more}
 use Rattle.std.proofs.lemmas.List.Sums.{common_prefix_len-drop_yes, common_prefix_len-drop_no}
-use Rattle.rendering_tree.specs.Views.{element_view, tree_view}
+use Rattle.rendering_tree.specs.Views.{element_view}
 use Rattle.rendering_tree.specs.declared.element.Elem.{Elem as ElemOf}
-use Rattle.rendering_tree.specs.declared.element.ElemChildren.{ElemChildren}
 use Rattle.std.specs.List.{common_prefix_len}
-use Rattle.std.specs.Option.{option_or}
+use Rattle.std.specs.Option.{option_copied, option_map, option_or}
 use Rattle.std.specs.Cmp.Lexicographic.{pointwise, unequal}
-use Rattle.rendering_tree.specs.Trees.{Children, Element, names_element}
-use Rattle.driver_bibliography.specs.Substitution.{Repeated, is_same_name, repeated, substituted, with_names_before}
-use Rattle.driver_bibliography.specs.Views.{borrowed_elements_view, repeats_after, all_changed}
+use Rattle.rendering_tree.specs.Trees.{Element}
+use Rattle.driver_bibliography.specs.Substitution.{Printed, Repeated, is_same_name, repeated, substituted, with_names_before}
+use Rattle.driver_bibliography.specs.Views.{borrowed_elements_view, lent_element_view, printed_view, repeats_after, all_changed}
+use Rattle.driver_bibliography.specs.declared.fields.PrintedItem.{PrintedItem}
 use Rattle.rendering_taxonomy.specs.declared.style.SubsequentAuthorSubstituteRule.{SubsequentAuthorSubstituteRule}
 
 same_step : (b : Bool) (m n k : ℕ) → ((suc m == suc n) && (cond b (1 + k) 0 == suc m)) ≡ (b && ((m == n) && (k == m)))
@@ -86,23 +86,28 @@ common_none alone ns ms i n (inr le) h =
     omega (arith, step, h)
 
 -- the substituted items are the items changed by what repeats
-pub substituted_by_repeats : (alone : Bool) (rule : SubsequentAuthorSubstituteRule) (text : List ℕ) (last : Option Element) (trees : List Children)
-    → all_changed text (repeats_after alone rule last trees) trees ≡ map (substituted alone rule text) (with_names_before last trees)
+pub substituted_by_repeats : (alone : Bool) (rule : SubsequentAuthorSubstituteRule) (text : List ℕ) (last : Option Element) (items : List Printed)
+    → all_changed text (repeats_after alone rule last items) items ≡ map (substituted alone rule text) (with_names_before last items)
 substituted_by_repeats alone rule text last [] = refl
-substituted_by_repeats alone rule text last (tree ∷ trees) = ap (λ ts. substituted alone rule text (last, tree) ∷ ts) (substituted_by_repeats alone rule text (option_or (names_element tree) last) trees)
+substituted_by_repeats alone rule text last (p ∷ ps) = ap (λ ts. substituted alone rule text (last, p) ∷ ts) (substituted_by_repeats alone rule text (option_or p.names last) ps)
 
 -- what repeats was found of the items before an index, and is left to be found of the others
-pub repeats_go_on : (alone : Bool) (rule : SubsequentAuthorSubstituteRule) (trees : List ElemChildren) (i : ℕ) (x : ElemChildren) (last next : Option Element) (known new all : List Repeated) (r : Repeated)
-    → i < length trees → x ≡ get_or trees i x → known ++ repeats_after alone rule last (map tree_view (drop i trees)) ≡ all → r ≡ repeated alone rule last (names_element (tree_view x)) → next ≡ option_or (names_element (tree_view x)) last
-    → new ≡ known ++ r ∷ [] → new ++ repeats_after alone rule next (map tree_view (drop (i + 1) trees)) ≡ all
+pub repeats_go_on : (alone : Bool) (rule : SubsequentAuthorSubstituteRule) (trees : List PrintedItem) (i : ℕ) (x : PrintedItem) (last next : Option Element) (known new all : List Repeated) (r : Repeated)
+    → i < length trees → x ≡ get_or trees i x → known ++ repeats_after alone rule last (map printed_view (drop i trees)) ≡ all → r ≡ repeated alone rule last ((printed_view x).names) → next ≡ option_or ((printed_view x).names) last
+    → new ≡ known ++ r ∷ [] → new ++ repeats_after alone rule next (map printed_view (drop (i + 1) trees)) ≡ all
 repeats_go_on alone rule trees i x last next known new all r less is h says on e =
-    let from : map tree_view (drop i trees) ≡ tree_view x ∷ map tree_view (drop (i + 1) trees) = ap (map tree_view) (drop_more trees i x less) ∙ ap (λ y. tree_view y ∷ map tree_view (drop (i + 1) trees)) (sym is) in
-    (λ k. e k ++ repeats_after alone rule (on k) (map tree_view (drop (i + 1) trees)))
-    ∙ append_assoc known (r ∷ []) (repeats_after alone rule (option_or (names_element (tree_view x)) last) (map tree_view (drop (i + 1) trees)))
-    ∙ ap (λ y. known ++ y ∷ repeats_after alone rule (option_or (names_element (tree_view x)) last) (map tree_view (drop (i + 1) trees))) says
+    let from : map printed_view (drop i trees) ≡ printed_view x ∷ map printed_view (drop (i + 1) trees) = ap (map printed_view) (drop_more trees i x less) ∙ ap (λ y. printed_view y ∷ map printed_view (drop (i + 1) trees)) (sym is) in
+    (λ k. e k ++ repeats_after alone rule (on k) (map printed_view (drop (i + 1) trees)))
+    ∙ append_assoc known (r ∷ []) (repeats_after alone rule (option_or ((printed_view x).names) last) (map printed_view (drop (i + 1) trees)))
+    ∙ ap (λ y. known ++ y ∷ repeats_after alone rule (option_or ((printed_view x).names) last) (map printed_view (drop (i + 1) trees))) says
     ∙ ap (λ ys. known ++ repeats_after alone rule last ys) (sym from)
     ∙ h
 
-pub repeats_end : (alone : Bool) (rule : SubsequentAuthorSubstituteRule) (trees : List ElemChildren) (i : ℕ) (last : Option Element) (known all : List Repeated) → length trees ≤ i
-    → known ++ repeats_after alone rule last (map tree_view (drop i trees)) ≡ all → known ≡ all
-repeats_end alone rule trees i last known all le h = sym (append-nil known) ∙ ap (λ ys. known ++ repeats_after alone rule last (map tree_view ys)) (sym (drop_all i trees le)) ∙ h
+pub repeats_end : (alone : Bool) (rule : SubsequentAuthorSubstituteRule) (trees : List PrintedItem) (i : ℕ) (last : Option Element) (known all : List Repeated) → length trees ≤ i
+    → known ++ repeats_after alone rule last (map printed_view (drop i trees)) ≡ all → known ≡ all
+repeats_end alone rule trees i last known all le h = sym (append-nil known) ∙ ap (λ ys. known ++ repeats_after alone rule last (map printed_view ys)) (sym (drop_all i trees le)) ∙ h
+
+-- names that are lent are what they were where they lie
+pub names_seen : (o : Option (Bor ElemOf)) → lent_element_view o ≡ option_map (λ e. element_view e) (option_copied o)
+names_seen None = refl
+names_seen (Some e) = refl

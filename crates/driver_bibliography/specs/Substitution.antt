@@ -6,7 +6,7 @@ use Rattle.std.specs.Cmp.Lexicographic.{pointwise}
 use Rattle.rendering_taxonomy.specs.Formats.{plain}
 use Rattle.rendering_tree.specs.Metas.{Meta, Name, is_names}
 use Rattle.rendering_tree.specs.Same.{are_children, is_element}
-use Rattle.rendering_tree.specs.Trees.{Child, Children, Text, Elem, Markup, Link, Transparent, nothing, before, Element, elements, followed_by, simplified, names_element}
+use Rattle.rendering_tree.specs.Trees.{Child, Children, Text, Elem, Markup, Link, Transparent, nothing, before, Element, elements, followed_by, simplified}
 use Rattle.rendering_taxonomy.specs.declared.formatting.Display.{Display}
 use Rattle.rendering_taxonomy.specs.declared.style.SubsequentAuthorSubstituteRule.{SubsequentAuthorSubstituteRule}
 use Rattle.rendering_taxonomy.specs.declared.style.SubsequentAuthorSubstituteRule.TheVariants as rules
@@ -172,11 +172,16 @@ text_for text all_of_them tree = with_names (λ xs. text_alone text) tree
 text_for text lists_of_them tree = with_names (lists_replaced (text_alone text)) tree
 text_for text (first_of_them n) tree = with_names (λ xs. (names_replaced (text_alone text) xs n).0) tree
 
--- each item with the names element of the last item before it that has one
-abbrev pub with_names_before : Option Element → List Children → List (Option Element × Children)
-with_names_before last [] = []
-with_names_before last (tree ∷ trees) = (last, tree) ∷ with_names_before (option_or (names_element tree) last) trees
+-- What is printed of an item: its tree, and its first names as they were before texts met.
+pub record Printed : Type 0 where
+  pub tree : Children
+  pub names : Option Element
 
--- An item after a names element, with the text instead of what it repeats.
-abbrev pub substituted : Bool → SubsequentAuthorSubstituteRule → List ℕ → Option Element × Children → Children
-substituted alone rule text (last, tree) = simplified (text_for text (repeated alone rule last (names_element tree)) tree)
+-- each item with the names of the last item before it that has some
+abbrev pub with_names_before : Option Element → List Printed → List (Option Element × Printed)
+with_names_before last [] = []
+with_names_before last (p ∷ ps) = (last, p) ∷ with_names_before (option_or p.names last) ps
+
+-- An item after names, with the text instead of what it repeats.
+abbrev pub substituted : Bool → SubsequentAuthorSubstituteRule → List ℕ → Option Element × Printed → Children
+substituted alone rule text (last, p) = simplified (text_for text (repeated alone rule last p.names) p.tree)

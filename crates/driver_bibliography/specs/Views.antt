@@ -3,13 +3,14 @@ use Rattle.std.specs.Prelude.{◌≡◌, ℕ, Bool, List, [], ◌∷◌, map, Op
 use Rattle.std.specs.Borrow.{Bor}
 use Rattle.std.specs.Option.{option_map, unwrap_or}
 use Rattle.laws.specs.Text.{spelled}
-use Rattle.rendering_tree.specs.Trees.{Child, Children, Elem, Element, names_element, simplified}
+use Rattle.rendering_tree.specs.Trees.{Child, Children, Elem, Element, simplified}
 use Rattle.rendering_tree.specs.Views.{element_view, tree_view}
 use Rattle.driver_bibliography.specs.Items as items
-use Rattle.driver_bibliography.specs.Substitution.{Repeated, none_of_them, all_of_them, lists_of_them, first_of_them, with_names_before, is_some_name, lists_replaced, names_replaced, repeated, text_alone, text_for}
+use Rattle.driver_bibliography.specs.Substitution.{Printed, Repeated, none_of_them, all_of_them, lists_of_them, first_of_them, with_names_before, is_some_name, lists_replaced, names_replaced, repeated, text_alone, text_for}
 use Rattle.rendering_taxonomy.specs.declared.style.SubsequentAuthorSubstituteRule.{SubsequentAuthorSubstituteRule}
 use Rattle.rendering_tree.specs.declared.element.Elem.{Elem as ElemOf}
 use Rattle.driver_bibliography.specs.declared.fields.ItemFields.{ItemFields}
+use Rattle.driver_bibliography.specs.declared.fields.PrintedItem.{PrintedItem}
 use Rattle.driver_bibliography.specs.declared.repeats.Repetition.{Repetition}
 use Rattle.driver_bibliography.specs.declared.repeats.Repetition.TheVariants as repeats
 
@@ -44,9 +45,13 @@ repeated_view (repeats.First n) = first_of_them n
 abbrev pub fields_view : ItemFields → items.Fields
 fields_view f = record { first_field = option_map (λ e. element_view e) f.first_field; content = tree_view f.content }
 
+-- what is printed of an item
+abbrev pub printed_view : PrintedItem → Printed
+printed_view p = record { tree = tree_view p.tree; names = option_map (λ e. element_view e) p.names }
+
 -- what of the names of each item repeats those before them
-abbrev pub repeats_after : Bool → SubsequentAuthorSubstituteRule → Option Element → List Children → List Repeated
-repeats_after alone rule last trees = map (λ p. repeated alone rule p.0 (names_element p.1)) (with_names_before last trees)
+abbrev pub repeats_after : Bool → SubsequentAuthorSubstituteRule → Option Element → List Printed → List Repeated
+repeats_after alone rule last ps = map (λ q. repeated alone rule q.0 q.1.names) (with_names_before last ps)
 
 -- what names contain in which a text stands for what is repeated
 abbrev pub children_for : List ℕ → Repeated → Children → Children
@@ -56,10 +61,10 @@ children_for text lists_of_them xs = lists_replaced (text_alone text) xs
 children_for text (first_of_them n) xs = (names_replaced (text_alone text) xs n).0
 
 -- items in each of which a text stands for what is repeated
-abbrev pub all_changed : List ℕ → List Repeated → List Children → List Children
-all_changed text [] trees = []
+abbrev pub all_changed : List ℕ → List Repeated → List Printed → List Children
+all_changed text [] ps = []
 all_changed text (r ∷ rs) [] = []
-all_changed text (r ∷ rs) (tree ∷ trees) = simplified (text_for text r tree) ∷ all_changed text rs trees
+all_changed text (r ∷ rs) (p ∷ ps) = simplified (text_for text r p.tree) ∷ all_changed text rs ps
 
 -- What was changed is what was wanted, where there was something to change, and all is as it was where there was not.
 pub record Changes {X : Type 0} (wanted : Option X) (old new : X) (found : Bool) : Type 0 where

@@ -6,7 +6,7 @@ ghost use Rattle.rendering_tree.specs.Trees.{parted};
 ghost use Rattle.rendering_tree.specs.Views.{tree_view};
 ghost use Rattle.rendering_style.specs.Views.{bibliography_layout_view};
 ghost use Rattle.driver_bibliography.specs.Items.{all_substituted, fields_by, fields_of, items_of};
-ghost use Rattle.driver_bibliography.specs.Views.{all_changed, fields_view, repeated_view, spelled_if};
+ghost use Rattle.driver_bibliography.specs.Views.{all_changed, fields_view, printed_view, repeated_view, spelled_if};
 
 use crate::repeats::{Repetition, repeats};
 use crate::substitute::substitute;
@@ -14,6 +14,13 @@ use rendering_style::Bibliography;
 use rendering_taxonomy::{SecondFieldAlign, SubsequentAuthorSubstituteRule};
 use rendering_tree::{Elem, ElemChildren, simplify_children};
 use std::alloc::{AllocError, Global};
+
+/// What is printed of an item of a bibliography: its tree, and its first names as they were before texts met.
+#[derive(Debug, Drop)]
+pub struct PrintedItem {
+    pub tree: ElemChildren,
+    pub names: Option<Elem>,
+}
 
 /// An item of a bibliography: its first field, where the second one is aligned, and all else.
 #[derive(Debug, PartialEq, Eq, Drop)]
@@ -30,17 +37,17 @@ pub struct ItemFields {
 pub fn items(
     alloc: Global,
     bibliography: &Bibliography,
-    trees: Vec<ElemChildren>,
+    printed: Vec<PrintedItem>,
 ) -> Result<Vec<ItemFields>, AllocError>
     ensures { IfOk result (λ v. map fields_view v.items
-        ≡ items_of (bibliography_layout_view bibliography.now) (map tree_view trees.items)) }
+        ≡ items_of (bibliography_layout_view bibliography.now) (map printed_view printed.items)) }
 {
     let substituted = substitute_all(
         alloc,
         bibliography.substitutes_names_alone,
         bibliography.subsequent_author_substitute_rule,
         bibliography.subsequent_author_substitute.as_deref(),
-        trees,
+        printed,
     )?;
     fields_of_all(alloc, bibliography.second_field_align, substituted)
 }
@@ -51,14 +58,14 @@ fn substitute_all(
     alone: bool,
     rule: SubsequentAuthorSubstituteRule,
     text: Option<&str>,
-    trees: Vec<ElemChildren>,
+    printed: Vec<PrintedItem>,
 ) -> Result<Vec<ElemChildren>, AllocError>
     ensures { IfOk result (λ v. map tree_view v.items
-        ≡ all_substituted alone rule (spelled_if text.entry) (map tree_view trees.items)) }
+        ≡ all_substituted alone rule (spelled_if text.entry) (map printed_view printed.items)) }
 {
     match text {
-        Some(text) => substitute_repeated(alloc, alone, rule, text, trees),
-        None => Ok(trees),
+        Some(text) => substitute_repeated(alloc, alone, rule, text, printed),
+        None => trees_of(alloc, printed),
     }
 }
 
@@ -68,13 +75,13 @@ fn substitute_repeated(
     alone: bool,
     rule: SubsequentAuthorSubstituteRule,
     text: &str,
-    trees: Vec<ElemChildren>,
+    printed: Vec<PrintedItem>,
 ) -> Result<Vec<ElemChildren>, AllocError>
     ensures { IfOk result (λ v. map tree_view v.items
-        ≡ all_substituted alone rule (Some (chars text.now)) (map tree_view trees.items)) }
+        ≡ all_substituted alone rule (Some (chars text.now)) (map printed_view printed.items)) }
 {
-    let repeats = repeats(alloc, alone, rule, &trees)?;
-    substitute_each(alloc, text, &repeats, trees)
+    let repeats = repeats(alloc, alone, rule, &printed)?;
+    substitute_each(alloc, text, &repeats, printed)
 }
 
 /// Items in each of which a text stands for what is repeated of its names.
@@ -82,18 +89,38 @@ fn substitute_each(
     alloc: Global,
     text: &str,
     repeats: &[Repetition],
-    trees: Vec<ElemChildren>,
+    printed: Vec<PrintedItem>,
 ) -> Result<Vec<ElemChildren>, AllocError>
-    requires { length repeats.now ≡ length trees.items }
+    requires { length repeats.now ≡ length printed.items }
     ensures { IfOk result (λ v. map tree_view v.items ≡ all_changed (chars text.now)
-        (map repeated_view repeats.now) (map tree_view trees.items)) }
+        (map repeated_view repeats.now) (map printed_view printed.items)) }
 {
-    let mut items = Vec::with_capacity(alloc, trees.len())?;
-    for tree in trees {
+    let mut items = Vec::with_capacity(alloc, printed.len())?;
+    for item in printed {
         let repeated = repeats[items.len()];
-        items.push(substitute(alloc, text, repeated, tree)?)?;
+        items.push(substitute(alloc, text, repeated, tree_of(item))?)?;
     }
     Ok(items)
+}
+
+/// What is printed of items.
+fn trees_of(alloc: Global, printed: Vec<PrintedItem>) -> Result<Vec<ElemChildren>, AllocError>
+    ensures { IfOk result (λ v. map tree_view v.items
+        ≡ map (λ p. p.tree) (map printed_view printed.items)) }
+{
+    let mut trees = Vec::with_capacity(alloc, printed.len())?;
+    for item in printed {
+        trees.push(tree_of(item))?;
+    }
+    Ok(trees)
+}
+
+/// What is printed of an item.
+fn tree_of(item: PrintedItem) -> ElemChildren
+    ensures { tree_view result ≡ (printed_view item).tree }
+{
+    let PrintedItem { tree, names: _ } = item;
+    tree
 }
 
 fn fields_of_all(

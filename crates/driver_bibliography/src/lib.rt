@@ -8,4 +8,4 @@ mod repeats;
 mod substitute;
 
 pub use as_elements::{all_is_replaced, names_are_elements};
-pub use fields::{ItemFields, items};
+pub use fields::{ItemFields, PrintedItem, items};

@@ -7,8 +7,9 @@ ghost use Rattle.std.specs.Option.{option_or};
 ghost use Rattle.rendering_tree.specs.Trees.{elements, elements_in};
 ghost use Rattle.rendering_tree.specs.Views.{child_view, element_view, tree_view};
 ghost use Rattle.driver_bibliography.specs.Substitution.{all_if, is_same_name, is_some_name, name_list, names_if, repeated, repeated_by, repeated_of};
-ghost use Rattle.driver_bibliography.specs.Views.{borrowed_elements_view, is_single, lent_element_view, repeated_view, repeats_after};
+ghost use Rattle.driver_bibliography.specs.Views.{borrowed_elements_view, is_single, lent_element_view, printed_view, repeated_view, repeats_after};
 
+use crate::fields::PrintedItem;
 use rendering_taxonomy::SubsequentAuthorSubstituteRule;
 use rendering_tree::{
     Elem, ElemChild, ElemChildren, ElemMeta, are_equal_elements, are_equal_trees,
@@ -32,15 +33,15 @@ pub(crate) fn repeats(
     alloc: Global,
     alone: bool,
     rule: SubsequentAuthorSubstituteRule,
-    trees: &[ElemChildren],
+    printed: &[PrintedItem],
 ) -> Result<Vec<Repetition>, AllocError>
     ensures { IfOk result (λ v. map repeated_view v.items
-        ≡ repeats_after alone rule None (map tree_view trees.now)) }
+        ≡ repeats_after alone rule None (map printed_view printed.now)) }
 {
-    let mut repeats = Vec::with_capacity(alloc, trees.len())?;
+    let mut repeats = Vec::with_capacity(alloc, printed.len())?;
     let mut last = None;
-    for tree in trees {
-        let names = tree.find_names();
+    for item in printed {
+        let names = item.names.as_ref();
         repeats.push(repeated(alloc, alone, rule, last, names)?)?;
         last = latest(names, last);
     }

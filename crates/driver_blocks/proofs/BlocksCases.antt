@@ -28,6 +28,7 @@ collapsing mode inside c = record c {
   year_suffix_delimiter = Some (codes ",");
   gathers_by_text = false;
   locators_end_runs = false;
+  repeats_no_years = false;
 }
 
 -- a cite by a word, with names
@@ -202,6 +203,30 @@ hidden_suffix :
     ≡ all_after 0 semicolon ∷ (1, false, comma, Some verdicts.YearSuffix) ∷ suffixes_after 2 comma ∷ []
 unfolding earlier collapsing named suffixed all_after suffixes_after semicolon comma
 hidden_suffix c = refl
+
+-- a style in which no years repeat
+repeating_none : Citation → Citation
+repeating_none c = record (collapsing (Some collapses.YearSuffix) semicolon c) { repeats_no_years = true }
+
+first_suffix_last : (c : Citation) → map earlier (arranged (repeating_none c) false (suffixed 1 ∷ suffixed 0 ∷ [])) ≡ all_after 1 semicolon ∷ suffixes_after 0 comma ∷ []
+unfolding earlier collapsing repeating_none named suffixed all_after suffixes_after semicolon comma
+first_suffix_last c = refl
+
+-- after a year suffix of another class the year stands again
+year_again :
+    (c : Citation)
+    → map earlier (arranged (repeating_none c) false (suffixed 0 ∷ of_another_class 1 ∷ suffixed 1 ∷ []))
+    ≡ all_after 0 semicolon ∷ (1, true, semicolon, Some verdicts.First) ∷ (1, true, semicolon, Some verdicts.First) ∷ []
+unfolding earlier collapsing repeating_none named suffixed of_another_class all_after semicolon comma
+year_again c = refl
+
+-- a hidden cite shows no year
+after_a_hidden_year :
+    (c : Citation)
+    → map earlier (arranged (repeating_none c) false (record (suffixed 0) { is_shown = false } ∷ suffixed 1 ∷ record (suffixed 2) { is_shown = false } ∷ suffixed 3 ∷ []))
+    ≡ hidden_after 0 semicolon ∷ (1, true, semicolon, Some verdicts.First) ∷ (2, false, comma, Some verdicts.YearSuffix) ∷ suffixes_after 3 comma ∷ []
+unfolding earlier collapsing repeating_none named suffixed hidden_after suffixes_after semicolon comma
+after_a_hidden_year c = refl
 
 -- the delimiter after what was collapsed comes before numbers alone
 before_no_number :

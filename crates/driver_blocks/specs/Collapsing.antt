@@ -69,16 +69,28 @@ numbers_collapsed c xs = runs_collapsed c (is_next_number c.locators_end_runs) x
 abbrev pub is_further : Suffix → Bool
 is_further s = nat_lt 0 s.index
 
--- what is left of a later cite where year suffixes are collapsed: its year suffix alone, if it is not the first one, else its first date
-abbrev pub suffix_verdict : Option Suffix → CollapseVerdict
-suffix_verdict suffix = if option_map_or is_further suffix false then verdicts.YearSuffix else verdicts.First
+-- whether two year suffixes are of one class, whose cites have one year
+abbrev pub are_of_one_class : Option Suffix → Option Suffix → Bool
+are_of_one_class (Some s) (Some t) = is_origin s.origin t.origin
+are_of_one_class s t = false
+
+-- Whether a cite leaves its year out, after the one with the last year suffix that is shown before it in its block: where no
+-- years repeat, if both suffixes are of one class; else if its own is not the first one.
+abbrev pub leaves_year_out : Bool → Option Suffix → Option Suffix → Bool
+leaves_year_out repeats_none last suffix =
+    if repeats_none then are_of_one_class last suffix else option_map_or is_further suffix false
+
+-- what is left of a later cite where year suffixes are collapsed: its year suffix alone, if it leaves its year out, else its first date
+abbrev pub suffix_verdict : Bool → Option Suffix → Option Suffix → CollapseVerdict
+suffix_verdict repeats_none last suffix =
+    if leaves_year_out repeats_none last suffix then verdicts.YearSuffix else verdicts.First
 
 -- what is left of a later cite of a block by the mode; no block is collapsed where numbers are
-abbrev pub verdict_in : Collapse → Option Suffix → CollapseVerdict
-verdict_in collapses.CitationNumber suffix = verdicts.First
-verdict_in collapses.Year suffix = verdicts.First
-verdict_in collapses.YearSuffix suffix = suffix_verdict suffix
-verdict_in collapses.YearSuffixRanged suffix = suffix_verdict suffix
+abbrev pub verdict_in : Bool → Collapse → Option Suffix → Option Suffix → CollapseVerdict
+verdict_in repeats_none collapses.CitationNumber last suffix = verdicts.First
+verdict_in repeats_none collapses.Year last suffix = verdicts.First
+verdict_in repeats_none collapses.YearSuffix last suffix = suffix_verdict repeats_none last suffix
+verdict_in repeats_none collapses.YearSuffixRanged last suffix = suffix_verdict repeats_none last suffix
 
 -- the delimiter before a cite of which so much is left
 abbrev pub verdict_delimiter : Citation → CollapseVerdict → Option (List ℕ)
@@ -89,14 +101,30 @@ verdict_delimiter c verdicts.YearSuffix = option_or c.year_suffix_delimiter (ins
 abbrev pub collapsed_to : {X : Type 0} → Citation → CollapseVerdict → Gathered X → Arranged X
 collapsed_to c verdict x = record { cite = x; is_shown = x.is_shown; delimiter = verdict_delimiter c verdict; verdict = Some verdict }
 
--- a later cite of a block by the mode
-abbrev pub later : {X : Type 0} → Citation → Collapse → Gathered X → Arranged X
-later c mode x = collapsed_to c (verdict_in mode x.suffix) x
+-- a later cite of a block by the mode, after the last year suffix that is shown before it
+abbrev pub later :
+    {X : Type 0} → Citation → Bool → Collapse → Option Suffix → Gathered X → Arranged X
+later c repeats_none mode last x = collapsed_to c (verdict_in repeats_none mode last x.suffix) x
+
+-- the year suffix of the last cite that is shown, once another cite stands
+abbrev pub last_suffix : {X : Type 0} → Option Suffix → Gathered X → Option Suffix
+last_suffix last x = if x.is_shown then x.suffix else last
+
+-- the later cites of a block by the mode
+abbrev pub later_cites :
+    {X : Type 0} → Citation → Bool → Collapse → Option Suffix → List (Gathered X) → List (Arranged X)
+later_cites c repeats_none mode last [] = []
+later_cites c repeats_none mode last (x ∷ xs) =
+    later c repeats_none mode last x
+    ∷ later_cites c repeats_none mode (last_suffix last x) xs
 
 -- a block whose later cites are collapsed; the flag says whether the block before it has two cites or more
-abbrev pub year_block : {X : Type 0} → Citation → Collapse → Bool × List (Gathered X) → List (Arranged X)
-year_block c mode (is_after, []) = []
-year_block c mode (is_after, x ∷ xs) = uncollapsed (if is_after then delimiter_after_collapsed c else c.layout.delimiter) x ∷ map (later c mode) xs
+abbrev pub year_block :
+    {X : Type 0} → Citation → Bool → Collapse → Bool × List (Gathered X) → List (Arranged X)
+year_block c repeats_none mode (is_after, []) = []
+year_block c repeats_none mode (is_after, x ∷ xs) =
+    uncollapsed (if is_after then delimiter_after_collapsed c else c.layout.delimiter) x
+    ∷ later_cites c repeats_none mode (last_suffix None x) xs
 
 -- whether a block has two cites or more
 abbrev pub has_later : {Y : Type 0} → List Y → Bool
@@ -125,23 +153,29 @@ abbrev pub suffixes_collapsed : {X : Type 0} → List (Arranged X) → List (Arr
 suffixes_collapsed xs = flat_map collapsed_run (runs_of continues xs)
 
 -- a block whose years are collapsed by the mode; no block is collapsed where numbers are
-abbrev pub block_by : {X : Type 0} → Citation → Collapse → Bool × List (Gathered X) → List (Arranged X)
-block_by c collapses.CitationNumber b = year_block c collapses.CitationNumber b
-block_by c collapses.Year b = year_block c collapses.Year b
-block_by c collapses.YearSuffix b = year_block c collapses.YearSuffix b
-block_by c collapses.YearSuffixRanged b = suffixes_collapsed (year_block c collapses.YearSuffixRanged b)
+abbrev pub block_by :
+    {X : Type 0} → Citation → Bool → Collapse → Bool × List (Gathered X) → List (Arranged X)
+block_by c repeats_none collapses.CitationNumber b = year_block c repeats_none collapses.CitationNumber b
+block_by c repeats_none collapses.Year b = year_block c repeats_none collapses.Year b
+block_by c repeats_none collapses.YearSuffix b = year_block c repeats_none collapses.YearSuffix b
+block_by c repeats_none collapses.YearSuffixRanged b =
+    suffixes_collapsed (year_block c repeats_none collapses.YearSuffixRanged b)
 
--- blocks whose years are collapsed
-abbrev pub years_collapsed : {X : Type 0} → Citation → Collapse → List (List (Gathered X)) → List (Arranged X)
-years_collapsed c mode bs = flat_map (block_by c mode) (with_previous_test has_later bs)
+-- blocks whose years are collapsed; the flag says whether no years repeat
+abbrev pub years_collapsed :
+    {X : Type 0} → Citation → Bool → Collapse → List (List (Gathered X)) → List (Arranged X)
+years_collapsed c repeats_none mode bs =
+    flat_map (block_by c repeats_none mode) (with_previous_test has_later bs)
 
 -- blocks collapsed by a mode, if there is one
 abbrev pub collapsed : {X : Type 0} → Citation → Option Collapse → List (List (Gathered X)) → List (Arranged X)
 collapsed c None bs = flat_map (uncollapsed_block c) bs
 collapsed c (Some collapses.CitationNumber) bs = numbers_collapsed c (flat_map (uncollapsed_block c) bs)
-collapsed c (Some collapses.Year) bs = years_collapsed c collapses.Year bs
-collapsed c (Some collapses.YearSuffix) bs = years_collapsed c collapses.YearSuffix bs
-collapsed c (Some collapses.YearSuffixRanged) bs = years_collapsed c collapses.YearSuffixRanged bs
+collapsed c (Some collapses.Year) bs = years_collapsed c c.repeats_no_years collapses.Year bs
+collapsed c (Some collapses.YearSuffix) bs =
+    years_collapsed c c.repeats_no_years collapses.YearSuffix bs
+collapsed c (Some collapses.YearSuffixRanged) bs =
+    years_collapsed c c.repeats_no_years collapses.YearSuffixRanged bs
 
 -- The cites of a citation in their final order. Where one of them has a purpose nothing is collapsed.
 abbrev pub arranged : {X : Type 0} → Citation → Bool → List (Gathered X) → List (Arranged X)

@@ -55,7 +55,7 @@ fn collapse<'a>(
             let cites = uncollapsed_blocks(alloc, blocks)?;
             collapse_numbers(alloc, style.locators_end_runs, &cites)
         }
-        Some(mode) => collapse_years(alloc, mode, blocks),
+        Some(mode) => collapse_years(alloc, style.repeats_no_years, mode, blocks),
     }
 }
 

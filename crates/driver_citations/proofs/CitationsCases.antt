@@ -69,6 +69,19 @@ before_a_comma : plain_text (citation_of (Some []) (layout (codes ")")) false (c
 unfolding layout cite words
 before_a_comma = refl
 
+-- where texts are joined a citation ends in no white space, whatever its cites and its suffix end in
+trimmed_at_last : plain_text (citation_of (Some []) (layout (codes ") ")) false (cite 0 (codes "A ") ∷ cite 1 (codes "B") ∷ [])) ≡ codes "(A ; B)"
+unfolding layout cite words
+trimmed_at_last = refl
+
+trimmed_with_a_purpose : plain_text (citation_of (Some []) (layout (codes ")")) true (cite 0 (codes "A ") ∷ [])) ≡ codes "A"
+unfolding layout cite words
+trimmed_with_a_purpose = refl
+
+not_trimmed : plain_text (citation_of None (layout (codes ") ")) false (cite 0 (codes "A ") ∷ [])) ≡ codes "(A ) "
+unfolding layout cite words
+not_trimmed = refl
+
 as_written : plain_text (citation_of None (layout (codes ")")) false (cite 0 (codes "A") ∷ cite 1 (codes " B") ∷ [])) ≡ codes "(A;  B)"
 unfolding layout cite words
 as_written = refl

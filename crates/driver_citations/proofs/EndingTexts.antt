@@ -1,6 +1,6 @@
 -- Ends of texts and trees.
-use Rattle.std.proofs.Common.{◌≡◌, ℕ, ◌+◌, ◌-◌, ◌<◌, ◌≤◌, List, [], ◌∷◌, ◌++◌, drop, take, get_or, set, length, refl, sym, ap, ◌∙◌, arith, bytes_eq}
-use Rattle.std.proofs.lemmas.List.{drop-drop, length-set, take_all, take_more, take_more_set}
+use Rattle.std.proofs.Common.{◌≡◌, ℕ, ◌+◌, ◌-◌, ◌<◌, List, [], ◌∷◌, drop, take, get_or, set, length, refl, sym, ap, ◌∙◌, arith, bytes_eq}
+use Rattle.std.proofs.lemmas.List.{drop-drop}
 use Rattle.std.specs.Str.{chars, IsUtf8}
 use Rattle.std.specs.Cmp.Lexicographic.{bytes_decides}
 use Rattle.std.proofs.lemmas.Bool.Decides.{same_from_decides, Decides-like}
@@ -10,6 +10,7 @@ use Rattle.rendering_tree.specs.Trees.{Child, Children, nothing, before, followe
 use Rattle.rendering_tree.specs.Views.{child_view, children_view}
 use Rattle.rendering_tree.specs.declared.element.ElemChild.{ElemChild}
 use Rattle.rendering_tree.proofs.SimplifySteps.{children-append}
+use Rattle.rendering.proofs.LastBlocks.{last_apart, last_set}
 use Rattle.driver_citations.specs.Ends.{end_of, end_of_child, ended, ended_child, start_of, start_of_child}
 
 -- texts are one where their characters are
@@ -28,14 +29,6 @@ after_others nothing y = refl
 after_others (before z nothing) y = refl
 after_others (before z (before w ws)) y = after_others (before w ws) y
 
--- all but the last one, and the last one
-last_apart : (xs : List ElemChild) (x : ElemChild) → 0 < length xs → x ≡ get_or xs (length xs - 1) x → xs ≡ take (length xs - 1) xs ++ x ∷ []
-last_apart xs x some is =
-    let n = length xs - 1 in
-    let less : n < length xs = omega (arith, some) in
-    let all : length xs ≤ n + 1 = omega (arith, some) in
-    sym (take_all (n + 1) xs all) ∙ take_more xs n x less ∙ ap (λ y. take n xs ++ y ∷ []) (sym is)
-
 pub end_last : (xs : List ElemChild) (x : ElemChild) → 0 < length xs → x ≡ get_or xs (length xs - 1) x → end_of_child (child_view x) ≡ end_of (children_view xs)
 end_last xs x some is =
     let n = length xs - 1 in
@@ -51,14 +44,6 @@ ended_others : (end : List ℕ) (zs : Children) (y : Child) → ended end (follo
 ended_others end nothing y = refl
 ended_others end (before z nothing) y = refl
 ended_others end (before z (before w ws)) y = ap (before z) (ended_others end (before w ws) y)
-
--- the last one is another child
-last_set : (xs : List ElemChild) (y : ElemChild) → 0 < length xs → set xs (length xs - 1) y ≡ take (length xs - 1) xs ++ y ∷ []
-last_set xs y some =
-    let n = length xs - 1 in
-    let less : n < length xs = omega (arith, some) in
-    let all : length (set xs n y) ≤ n + 1 = omega (arith, some, length-set xs n y) in
-    sym (take_all (n + 1) (set xs n y) all) ∙ take_more_set xs n y less
 
 pub ended_last : (end : List ℕ) (xs : List ElemChild) (x y : ElemChild) → 0 < length xs → x ≡ get_or xs (length xs - 1) x → child_view y ≡ ended_child end (child_view x)
     → children_view (set xs (length xs - 1) y) ≡ ended end (children_view xs)

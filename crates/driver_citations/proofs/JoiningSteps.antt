@@ -12,7 +12,7 @@ use Rattle.rendering_tree.specs.declared.element.ElemChild.{ElemChild}
 use Rattle.rendering_tree.proofs.SimplifySteps.{flat-followed_by, followed_by-assoc, followed_by-nothing}
 use Rattle.rendering_tree.proofs.TreesReading.{keeps_tokens}
 use Rattle.rendering_style.specs.Styles.{Layout}
-use Rattle.driver_citations.specs.Citations.{Shown, affixed, citation_by, citation_look, citation_of, cite_after, entry_element, followed_by_text, is_printed, joined_cites, own_delimiter, printed_cites, suffixed, text_after}
+use Rattle.driver_citations.specs.Citations.{Shown, affixed, as_printed, citation_by, citation_look, citation_of, cite_after, entry_element, followed_by_text, is_printed, joined_cites, own_delimiter, printed_cites, suffixed, text_after}
 use Rattle.driver_citations.specs.Ends.{end_of}
 use Rattle.driver_citations.specs.Meeting.{delimiter_before}
 use Rattle.rendering_names.specs.Persons.{comma_and_space}
@@ -32,11 +32,11 @@ put_after o f xs (s ∷ ss) some =
     ap (λ b. fold (put_cite o f) (followed_by (if b then xs else there) (before (entry_element s) nothing)) ss) some
     ∙ put_after o f (cite_after o f xs s) ss (some_last there (entry_element s))
 
-finished_some : (o : Option Quotes) (l : Layout) (xs : Children) → is_nothing xs ≡ false → finished o l true xs ≡ simplified xs
+finished_some : (o : Option Quotes) (l : Layout) (xs : Children) → is_nothing xs ≡ false → finished o l true xs ≡ as_printed o xs
 finished_some o l nothing some = absurd (true≢false some)
 finished_some o l (before x xs) some = refl
 
-finished_in_affixes : (o : Option Quotes) (l : Layout) (xs : Children) → is_nothing xs ≡ false → finished o l false xs ≡ simplified (affixed o l xs)
+finished_in_affixes : (o : Option Quotes) (l : Layout) (xs : Children) → is_nothing xs ≡ false → finished o l false xs ≡ as_printed o (affixed o l xs)
 finished_in_affixes o l nothing some = absurd (true≢false some)
 finished_in_affixes o l (before x xs) some = refl
 
@@ -91,7 +91,7 @@ pub simplified_after : (xs ys : Children) → simplified (followed_by (simplifie
 simplified_after xs ys = ap tree_of (flat-followed_by (simplified xs) ys ∙ ap (λ ts. flat ys ++ ts) (keeps_tokens xs) ∙ sym (flat-followed_by xs ys))
 
 -- a suffix may be put after the normal form
-pub suffix_after : (o : Option Quotes) (f : Formatting) (suffix : List ℕ) (xs : Children) → suffix_put o f suffix (simplified xs) ≡ simplified (suffixed o f suffix xs)
+pub suffix_after : (o : Option Quotes) (f : Formatting) (suffix : List ℕ) (xs : Children) → suffix_put o f suffix (simplified xs) ≡ as_printed o (suffixed o f suffix xs)
 suffix_after (Some quotes) f suffix xs = refl
 suffix_after None f suffix xs =
     let by : (b : Bool) → (if b then simplified xs else simplified (followed_by_text f suffix (simplified xs))) ≡ simplified (if b then xs else followed_by_text f suffix xs) =
@@ -119,13 +119,13 @@ no_tree_left o f between false now all items none h = ap (λ xs. trees_put o f b
 
 -- where there are trees they are joined
 pub joined_is : (o : Option Quotes) (l : Layout) (ts : List Children) → (length ts ≢ 0)
-    → simplified (affixed o l (trees_put o (citation_look l) (unwrap_or l.delimiter comma_and_space) true nothing ts)) ≡ joined_alone o l ts
+    → as_printed o (affixed o l (trees_put o (citation_look l) (unwrap_or l.delimiter comma_and_space) true nothing ts)) ≡ joined_alone o l ts
 joined_is o l [] some = absurd (some refl)
 joined_is o l (t ∷ ts) some = refl
 
 -- a layout's affixes were put round what is inside
 pub affixed_is : {E : Type 0} (o : Option Quotes) (l : Layout) (look : Formatting) (prefix suffix : List ℕ) (inside first mid simple : Children) (r : Result ElemChildren E) → look ≡ citation_look l → prefix ≡ unwrap_or l.prefix [] → suffix ≡ unwrap_or l.suffix []
-    → first ≡ followed_by_text look prefix nothing → mid ≡ followed_by first inside → simple ≡ simplified mid → IfOk r (λ t. tree_view t ≡ suffix_put o look suffix simple) → IfOk r (λ t. tree_view t ≡ simplified (affixed o l inside))
+    → first ≡ followed_by_text look prefix nothing → mid ≡ followed_by first inside → simple ≡ simplified mid → IfOk r (λ t. tree_view t ≡ suffix_put o look suffix simple) → IfOk r (λ t. tree_view t ≡ as_printed o (affixed o l inside))
 affixed_is o l look prefix suffix inside first mid simple (Err e) looks p s f m is h = tt
 affixed_is o l look prefix suffix inside first mid simple (Ok t) looks p s f m is h =
     h

@@ -56,8 +56,8 @@ pub none_before : (c : ℕ) (cs : List ℕ) → cs ≡ [] → cs ≡ before_char
 none_before c cs e = ap (λ o. if option_map_or (λ d. gives_way d c) o false then without_last 1 cs else cs) (no_last cs e)
 
 -- one text before another one
-pub before_first : (ds cs rest new : List ℕ) (c : ℕ) → ds ≡ c ∷ rest → new ≡ before_character c cs → new ≡ before_text ds cs
-before_first ds cs rest new c e h = h ∙ ap (λ xs. before_text xs cs) (sym e)
+pub before_first : (ds cs rest mid new : List ℕ) (c : ℕ) → ds ≡ c ∷ rest → mid ≡ before_character c cs → new ≡ before_character c mid → new ≡ before_text ds cs
+before_first ds cs rest mid new c e once again = again ∙ ap (before_character c) once ∙ ap (λ xs. before_text xs cs) (sym e)
 
 pub before_none : (ds cs : List ℕ) → ds ≡ [] → cs ≡ before_text ds cs
 before_none ds cs e = ap (λ xs. before_text xs cs) (sym e)

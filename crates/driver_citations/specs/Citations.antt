@@ -6,6 +6,7 @@ use Rattle.rendering_page.specs.Tail.{ends_in}
 use Rattle.rendering_tree.specs.Metas.{Entry}
 use Rattle.rendering_tree.specs.Trees.{Child, Children, Text, Elem, nothing, before, is_nothing, simplified, followed_by}
 use Rattle.rendering_style.specs.Styles.{Layout}
+use Rattle.rendering.specs.Ends.{trimmed_tree}
 use Rattle.rendering.specs.Purposes.{layout_manner}
 use Rattle.driver_citations.specs.Ends.{end_of}
 use Rattle.driver_citations.specs.Meeting.{delimiter_before, left_after, met_list}
@@ -65,11 +66,16 @@ is_printed (Some quotes) tree = not (is_nothing tree)
 abbrev pub printed_cites : Option Quotes → List Shown → List Shown
 printed_cites o ss = filter (λ s. is_printed o s.tree) ss
 
+-- a tree as it is printed: in its normal form, and where texts are joined without the white space at its end
+abbrev pub as_printed : Option Quotes → Children → Children
+as_printed None xs = simplified xs
+as_printed (Some quotes) xs = trimmed_tree xs
+
 -- cites in the affixes of the layout, or without these where one has a purpose; where there is none, nothing
 abbrev pub citation_by : Option Quotes → Layout → Bool → List Shown → Children
 citation_by o l some_purpose [] = nothing
-citation_by o l true (s ∷ ss) = simplified (joined_cites o (citation_look l) s ss)
-citation_by o l false (s ∷ ss) = simplified (affixed o l (joined_cites o (citation_look l) s ss))
+citation_by o l true (s ∷ ss) = as_printed o (joined_cites o (citation_look l) s ss)
+citation_by o l false (s ∷ ss) = as_printed o (affixed o l (joined_cites o (citation_look l) s ss))
 
 -- A citation from the cites that are shown.
 abbrev pub citation_of : Option Quotes → Layout → Bool → List Shown → Children

@@ -8,7 +8,8 @@ use Rattle.rendering_taxonomy.specs.declared.formatting.Formatting.{Formatting}
 use Rattle.rendering_tree.specs.Trees.{Children, nothing, before, followed_by, is_nothing, simplified}
 use Rattle.rendering_tree.specs.Views.{tree_view}
 use Rattle.rendering_style.specs.Styles.{Layout}
-use Rattle.driver_citations.specs.Citations.{Shown, affixed, entry_element, followed_by_text, is_printed, own_delimiter, text_after}
+use Rattle.rendering.specs.Ends.{trimmed_tree}
+use Rattle.driver_citations.specs.Citations.{Shown, affixed, as_printed, entry_element, followed_by_text, is_printed, own_delimiter, text_after}
 use Rattle.driver_citations.specs.Ends.{end_of}
 use Rattle.driver_citations.specs.Standalone.{tree_after}
 use Rattle.driver_citations.specs.declared.citation.ShownCite.{ShownCite}
@@ -33,16 +34,16 @@ put_shown o f xs s = if is_printed o s.tree then put_cite o f xs s else xs
 abbrev pub put_cites : Option Quotes → Formatting → List Shown → Children
 put_cites o f ss = fold (put_shown o f) nothing ss
 
--- a tree in its normal form with a suffix
+-- a tree in its normal form with a suffix, as it is printed
 abbrev pub suffix_put : Option Quotes → Formatting → List ℕ → Children → Children
 suffix_put None f suffix xs = if ends_in suffix (end_of xs) then xs else simplified (followed_by_text f suffix xs)
-suffix_put (Some quotes) f suffix xs = simplified (text_after (Some quotes) f suffix xs)
+suffix_put (Some quotes) f suffix xs = trimmed_tree (text_after (Some quotes) f suffix xs)
 
 -- what is printed between the affixes of a layout, if anything is, with them or, where a cite has a purpose, without
 abbrev pub finished : Option Quotes → Layout → Bool → Children → Children
 finished o l some_purpose nothing = nothing
-finished o l true (before x xs) = simplified (before x xs)
-finished o l false (before x xs) = simplified (affixed o l (before x xs))
+finished o l true (before x xs) = as_printed o (before x xs)
+finished o l false (before x xs) = as_printed o (affixed o l (before x xs))
 
 -- trees after what is there, with a text between them, and before the first unless nothing stands before it
 abbrev pub trees_put : Option Quotes → Formatting → List ℕ → Bool → Children → List Children → Children

@@ -90,10 +90,10 @@ abbrev pub before_character : ℕ → List ℕ → List ℕ
 before_character c cs =
     if option_map_or (λ last. gives_way last c) (last_of cs) false then without_last 1 cs else cs
 
--- a text before another one
+-- A text before another one: its last character may go, and then the one before it, so of `, ` before `, ` nothing is left.
 abbrev pub before_text : List ℕ → List ℕ → List ℕ
 before_text [] cs = cs
-before_text (d ∷ ds) cs = before_character d cs
+before_text (d ∷ ds) cs = before_character d (before_character d cs)
 
 -- a delimiter before a tree: where texts are joined it meets the text with which that begins
 abbrev pub delimiter_before : Option Quotes → Children → List ℕ → List ℕ

@@ -2,7 +2,7 @@
 use Rattle.std.specs.Prelude.{ℕ, Bool, false, not, List, [], ◌∷◌, fold, map, filter, if◌then◌else◌, Option, None}
 use Rattle.std.specs.Option.{option_map, unwrap_or}
 use Rattle.rendering_taxonomy.specs.declared.formatting.Formatting.{Formatting}
-use Rattle.rendering_tree.specs.Trees.{Children, nothing, flat, followed_by, simplified}
+use Rattle.rendering_tree.specs.Trees.{Children, nothing, flat, followed_by}
 use Rattle.rendering_style.specs.Styles.{Layout}
 use Rattle.rendering_names.specs.Persons.{comma_and_space}
 use Rattle.rendering_context.specs.Cites.{CiteProperties, undisambiguated}
@@ -11,7 +11,7 @@ use Rattle.rendering.specs.Purposes.{citation}
 use Rattle.rendering.specs.Words.{joining_quotes}
 use Rattle.rendering_page.specs.Pages.{Quotes, prints}
 use Rattle.driver_requests.specs.Requests.{Item, Request, plain_locator}
-use Rattle.driver_citations.specs.Citations.{citation_look, affixed, text_after}
+use Rattle.driver_citations.specs.Citations.{affixed, as_printed, citation_look, text_after}
 use Rattle.driver_citations.specs.Meeting.{delimiter_before}
 use Rattle.rendering_taxonomy.specs.declared.cite.IbidState.TheVariants as ibids
 use Rattle.rendering_taxonomy.specs.declared.cite.IdentifierUsage.TheVariants as usages
@@ -51,7 +51,7 @@ delimited o l t ts = fold (tree_after o (citation_look l) (unwrap_or l.delimiter
 -- what items print, in the affixes of the layout; where there is none, nothing
 abbrev pub joined_alone : Option Quotes → Layout → List Children → Children
 joined_alone o l [] = nothing
-joined_alone o l (t ∷ ts) = simplified (affixed o l (delimited o l t ts))
+joined_alone o l (t ∷ ts) = as_printed o (affixed o l (delimited o l t ts))
 
 -- the items of a request that are not hidden
 abbrev pub shown_items : {P : Type 0} → Request P → List (Item P)

@@ -3,16 +3,18 @@
 ghost use Rattle.std.specs.Prelude.{◌≡◌, map, IfOk, None, OnOk};
 ghost use Rattle.std.specs.Option.{option_map};
 ghost use Rattle.std.specs.Str.{chars};
+ghost use Rattle.rendering.specs.Ends.{trimmed_tree};
 ghost use Rattle.rendering_style.specs.Views.{layout_view};
-ghost use Rattle.rendering_tree.specs.Trees.{followed_by, simplified};
+ghost use Rattle.rendering_tree.specs.Trees.{followed_by};
 ghost use Rattle.rendering_tree.specs.Views.{tree_view};
-ghost use Rattle.driver_citations.specs.Citations.{affixed, citation_of, is_printed, text_after};
+ghost use Rattle.driver_citations.specs.Citations.{affixed, as_printed, citation_of, is_printed, text_after};
 ghost use Rattle.rendering_page.specs.Views.{quotes_view};
 ghost use Rattle.driver_citations.specs.Joining.{delimited_after, finished, put_cite, put_cites, put_shown, shown_view, suffix_put};
 
 use crate::ending_text::{end_of, ends_in};
 use crate::layout_texts::{citation_look, push_after, push_own};
 use crate::meeting::delimiter_before;
+use rendering::trim_end;
 use rendering_style::Layout;
 use rendering_taxonomy::Formatting;
 use rendering_tree::{Elem, ElemChild, ElemChildren, ElemMeta, simplify_children};
@@ -29,7 +31,7 @@ pub struct ShownCite<'s> {
 
 /// A citation: its cites in the affixes of the layout, or without these where one has a purpose; where none is shown, nothing. With
 /// `quotes` texts are joined: cites that print nothing are not shown, delimiters and the suffix meet the text before them, delimiters also
-/// the one after them, and these are the close quotes inside which punctuation goes.
+/// the one after them, and these are the close quotes inside which punctuation goes. Such a citation ends in no white space.
 pub fn citation_of(
     alloc: Global,
     layout: &Layout,
@@ -156,9 +158,20 @@ fn finished(
         return Ok(joined);
     }
     if some_purpose {
-        simplify_children(joined)
+        as_printed(quotes, joined)
     } else {
         affixed(alloc, layout, quotes, joined)
+    }
+}
+
+/// A tree in its normal form, and where texts are joined without the white space at its end.
+fn as_printed(quotes: Option<&[&str]>, tree: ElemChildren) -> Result<ElemChildren, AllocError>
+    ensures { IfOk result (λ t. tree_view t
+        ≡ as_printed (option_map (λ q. quotes_view q.now) quotes.entry) (tree_view tree)) }
+{
+    match quotes {
+        Some(_) => trim_end(tree),
+        None => simplify_children(tree),
     }
 }
 
@@ -170,8 +183,9 @@ pub(crate) fn affixed(
     inside: ElemChildren,
 ) -> Result<ElemChildren, AllocError>
     ensures { IfOk result (λ t. tree_view t
-        ≡ simplified (affixed (option_map (λ q. quotes_view q.now) quotes.entry)
-        (layout_view layout.now) (tree_view inside))) }
+        ≡ as_printed (option_map (λ q. quotes_view q.now) quotes.entry)
+        (affixed (option_map (λ q. quotes_view q.now) quotes.entry) (layout_view layout.now)
+        (tree_view inside))) }
 {
     let look = citation_look(layout);
     let mut parts = ElemChildren::new(alloc);
@@ -181,7 +195,7 @@ pub(crate) fn affixed(
     put_suffix(alloc, look, quotes, text_or_empty(&layout.suffix), simple)
 }
 
-/// A tree in its normal form with a suffix, which meets what stands there where texts are joined.
+/// A tree in its normal form with a suffix, which meets what stands there where texts are joined, as it is printed.
 fn put_suffix(
     alloc: Global,
     look: Formatting,
@@ -199,7 +213,7 @@ fn put_suffix(
     }
 }
 
-/// A tree with a suffix that meets what stands there, in its normal form.
+/// A tree with a suffix that meets what stands there, in its normal form without the white space at its end.
 fn put_met(
     alloc: Global,
     look: Formatting,
@@ -208,12 +222,12 @@ fn put_met(
     simple: ElemChildren,
 ) -> Result<ElemChildren, AllocError>
     ensures { IfOk result (λ t. tree_view t
-        ≡ simplified (text_after (option_map (λ q. quotes_view q.now) quotes.entry) look
+        ≡ trimmed_tree (text_after (option_map (λ q. quotes_view q.now) quotes.entry) look
         (chars suffix.now) (tree_view simple))) }
 {
     let mut parts = simple;
     push_after(alloc, look, quotes, suffix, &mut parts)?;
-    simplify_children(parts)
+    trim_end(parts)
 }
 
 /// A tree in its normal form with a suffix that it does not end in.

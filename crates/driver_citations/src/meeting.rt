@@ -110,12 +110,12 @@ pub(crate) fn delimiter_before<'t>(
     }
 }
 
-/// A text before another one.
+/// A text before another one: its last character may go, and then the one before it.
 fn before_text<'t>(next: &str, text: &'t str) -> &'t str
     ensures { chars result.now ≡ before_text (chars next.now) (chars text.now) }
 {
     match split_first(next) {
-        Some((c, _)) => before_character(c, text),
+        Some((c, _)) => before_character(c, before_character(c, text)),
         None => text,
     }
 }

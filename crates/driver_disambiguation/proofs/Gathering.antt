@@ -16,7 +16,7 @@ use Rattle.driver_disambiguation.specs.States.{is_given_to, suffixes_overflow}
 use Rattle.driver_names.specs.Prints as prints
 use Rattle.driver_names.specs.Names.{Member, distinguished, own_names, states_by_names_of, states_by_names}
 use Rattle.driver_disambiguation.specs.Rounds as rounds
-use Rattle.driver_disambiguation.specs.Rounds.{chosen, states_by_choose, choose_beside, states_by_branches, is_given_to_class, unless_given}
+use Rattle.driver_disambiguation.specs.Rounds.{chosen, states_by_choose, choose_beside, states_by_branches, states_by_suffixes, is_given_to_class, unless_given}
 use Rattle.laws.proofs.Results.{guard_ok, ok_is}
 use Rattle.driver_disambiguation.specs.Gathered.{AllInRange, given_from, given_to_classes}
 use Rattle.driver_names.specs.Views.{class_view, given_view, given_states_view}
@@ -154,6 +154,13 @@ in_range_before_suffixes adds_names o ss old more mid new has named together bra
     let named_has : AllInRange more = ap suffixes_overflow named ∙ in_range_names adds_names o ss in
     let mid_has : AllInRange mid = ap suffixes_overflow together ∙ in_range_together old more has named_has in
     ap suffixes_overflow branched ∙ in_range_while ss (states_by_branches o ss) mid mid_has (in_range_branches o ss)
+
+-- names, then branches, then year suffixes are what a class adds
+pub given_in_turn : (adds_names has_dates : Bool) (o : Origin) (ss : List prints.Printed) (old more mid new : List GivenState)
+    → more ≡ states_by_names adds_names o ss → mid ≡ old ++ more → new ≡ unless_given ss (states_by_branches o ss) mid
+    → unless_given ss (states_by_suffixes has_dates o ss) new ≡ rounds.given_by adds_names has_dates old o ss
+given_in_turn adds_names has_dates o ss old more mid new named together branched =
+    ap (unless_given ss (states_by_suffixes has_dates o ss)) (branched ∙ ap (unless_given ss (states_by_branches o ss)) (together ∙ ap (λ gs. old ++ gs) named))
 
 -- what was given is in range, and what is left of the classes makes of it what all of them make
 abbrev pub Gathers : Bool → Bool → ℕ → List (List prints.Printed) → ℕ → List (List prints.Printed) → List GivenState → Type 0

@@ -30,7 +30,8 @@ pub(crate) fn some_prints_date(cites: &[Printed]) -> bool
     cites.iter().any(|cite| cite.prints_date())
 }
 
-/// What is given to classes, one after the other.
+/// What is given to classes, one after the other: names to each, and while none of its entries has a state of the round branches,
+/// then year suffixes.
 pub(crate) fn given_to_classes(
     alloc: Global,
     adds_names: bool,
@@ -45,44 +46,13 @@ pub(crate) fn given_to_classes(
     let mut entries = BTreeSet::new(alloc);
     for (class, members) in classes.iter().enumerate() {
         let origin = Origin { round, class };
-        give(
-            alloc,
-            adds_names,
-            has_dates,
-            origin,
-            members.as_slice(),
-            &mut given,
-            &mut entries,
-        )?;
+        let cites = members.as_slice();
+        let named = states_by_names(alloc, adds_names, origin, cites)?;
+        append(&mut given, &mut entries, named)?;
+        give_branches(alloc, origin, cites, &mut given, &mut entries)?;
+        give_suffixes(alloc, has_dates, origin, cites, &mut given, &mut entries)?;
     }
     Ok(given)
-}
-
-/// Gives names to a class, and while none of its entries has a state of the round branches, then year suffixes.
-#[tactic(auto, using(crate::proofs::Gathering::in_range_before_suffixes))]
-fn give(
-    alloc: Global,
-    adds_names: bool,
-    has_dates: bool,
-    origin: Origin,
-    class: &[&Printed],
-    given: &mut Vec<GivenState>,
-    entries: &mut BTreeSet<usize>,
-) -> Result<(), DriverError>
-    requires indices { AllInRange (given_states_view given.now.items) }
-    requires entries { AreEntriesOf entries.now (given_states_view given.now.items) }
-    ensures given { Leaves overflow_of result (given_states_view given.new.items)
-        (unless_beyond (rounds.given_by adds_names has_dates
-        (given_states_view given.old.items) (origin_view origin) (class_view class.now))) }
-    ensures entries { OnOk result (AreEntriesOf entries.new (given_states_view given.new.items)) }
-{
-    append(
-        given,
-        entries,
-        states_by_names(alloc, adds_names, origin, class)?,
-    )?;
-    give_branches(alloc, origin, class, given, entries)?;
-    give_suffixes(alloc, has_dates, origin, class, given, entries)
 }
 
 /// Gives other branches to a class, while none of its entries has a state of the round.

@@ -295,6 +295,21 @@ shared_by_all most ms v0 v1 v2 v3 v4 v5 v6 e0 e1 e2 e3 e4 e5 e6 =
     (next (Some variants.PrimaryName) v4 v5 f4 e5 (next (Some variants.AllNamesWithInitials) v3 v4 f3 e4 (next (Some variants.AllNames) v2 v3 f2 e3 (next (Some variants.ByCite) v1 v2 f1 e2 (next None v0 v1 f0 e1 (e0 ∙ splat_is_map ms (length ms) 0 refl))))))
     ∙ ap (λ f. map f ms) (fun_ext (λ m. own_rule (rule_for m) (λ r v. last_passing v (shares r ms m) most) 0))
 
+-- two lists of the same length side by side have at an index what each of them has there
+beside_at : {M X : Type 0} (view : M → X) (gs : List ℕ) (ms : List M) (i : ℕ) (m : M) → length gs ≡ length ms → i < length ms → m ≡ get_or ms i m
+    → (i < length (zip gs (map view ms))) × (get_or (zip gs (map view ms)) i (get_or gs i 0, view m) ≡ (get_or gs i 0, view m))
+beside_at {X = X} view gs ms i m same low at =
+    let xs : List X = map view ms in
+    let viewed : length xs ≡ length ms = length-map ms view in
+    let low_view : i < length xs = omega (arith, viewed, low) in
+    let low_beside : i < length gs = omega (arith, same, low) in
+    let g = get_or gs i 0 in
+    let there : i < length (zip gs xs) = omega (arith, length-zip gs xs, same, viewed, low) in
+    let x : get_or xs i (view m) ≡ view m = get_or-map view ms i m (view m) low ∙ ap view (sym at) in
+    let pair : get_or (zip gs xs) i (g, view m) ≡ (g, view m) =
+    get_or-zip gs xs i (g, view m) low_beside low_view ∙ (λ k. (get_or_default gs i g 0 low_beside k, x k)) in
+    (there, pair)
+
 -- a loop over members that makes something of each
 pub push_step : {M X Y : Type 0} (view : M → X) (h : X → Y) (ms : List M) (i : ℕ) (m : M) (old new : List Y) (y : Y) → i < length ms → m ≡ get_or ms i m → old ≡ map h (map view (take i ms)) → y ≡ h (view m)
     → new ≡ old ++ y ∷ [] → new ≡ map h (map view (take (i + 1) ms))
@@ -308,35 +323,23 @@ pub beside_step : {M X Y : Type 0} (view : M → X) (f : ℕ → X → Y) (gs : 
     → old ≡ map (λ p. f p.0 p.1) (take i (zip gs (map view ms))) → y ≡ f (get_or gs i 0) (view m) → new ≡ old ++ y ∷ [] → new ≡ map (λ p. f p.0 p.1) (take (i + 1) (zip gs (map view ms)))
 beside_step {X = X} view f gs ms i m old new y same low at before is after =
     let xs : List X = map view ms in
-    let viewed : length xs ≡ length ms = length-map ms view in
-    let low_view : i < length xs = omega (arith, viewed, low) in
-    let low_beside : i < length gs = omega (arith, same, low) in
     let g = get_or gs i 0 in
-    let there : i < length (zip gs xs) = omega (arith, length-zip gs xs, same, viewed, low) in
-    let x : get_or xs i (view m) ≡ view m = get_or-map view ms i m (view m) low ∙ ap view (sym at) in
-    let pair : get_or (zip gs xs) i (g, view m) ≡ (g, view m) =
-    get_or-zip gs xs i (g, view m) low_beside low_view ∙ (λ k. (get_or_default gs i g 0 low_beside k, x k)) in
+    let found = beside_at view gs ms i m same low at in
     after
     ∙ (λ k. before k ++ is k ∷ [])
-    ∙ sym (map_more (λ p. f p.0 p.1) (zip gs xs) i (g, view m) there ∙ ap (λ p. map (λ q. f q.0 q.1) (take i (zip gs xs)) ++ f p.0 p.1 ∷ []) pair)
+    ∙ sym (map_more (λ p. f p.0 p.1) (zip gs xs) i (g, view m) found.0 ∙ ap (λ p. map (λ q. f q.0 q.1) (take i (zip gs xs)) ++ f p.0 p.1 ∷ []) found.1)
 
 -- the same of what is made of each and appended
 pub beside_more : {M X Y : Type 0} (view : M → X) (f : ℕ → X → List Y) (gs : List ℕ) (ms : List M) (i : ℕ) (m : M) (old new : List Y) → length gs ≡ length ms → i < length ms → m ≡ get_or ms i m
     → old ≡ flat_map (λ p. f p.0 p.1) (take i (zip gs (map view ms))) → new ≡ old ++ f (get_or gs i 0) (view m) → new ≡ flat_map (λ p. f p.0 p.1) (take (i + 1) (zip gs (map view ms)))
 beside_more {X = X} view f gs ms i m old new same low at before after =
     let xs : List X = map view ms in
-    let viewed : length xs ≡ length ms = length-map ms view in
-    let low_view : i < length xs = omega (arith, viewed, low) in
-    let low_beside : i < length gs = omega (arith, same, low) in
     let g = get_or gs i 0 in
-    let there : i < length (zip gs xs) = omega (arith, length-zip gs xs, same, viewed, low) in
-    let x : get_or xs i (view m) ≡ view m = get_or-map view ms i m (view m) low ∙ ap view (sym at) in
-    let pair : get_or (zip gs xs) i (g, view m) ≡ (g, view m) =
-    get_or-zip gs xs i (g, view m) low_beside low_view ∙ (λ k. (get_or_default gs i g 0 low_beside k, x k)) in
+    let found = beside_at view gs ms i m same low at in
     after
     ∙ (λ k. before k ++ f g (view m))
     ∙ sym (
-    ap (flat_map (λ p. f p.0 p.1)) (take_more (zip gs xs) i (g, view m) there ∙ ap (λ p. take i (zip gs xs) ++ p ∷ []) pair)
+    ap (flat_map (λ p. f p.0 p.1)) (take_more (zip gs xs) i (g, view m) found.0 ∙ ap (λ p. take i (zip gs xs) ++ p ∷ []) found.1)
     ∙ flat_map-append (λ p. f p.0 p.1) (take i (zip gs xs)) ((g, view m) ∷ [])
     ∙ ap (λ ys. flat_map (λ p. f p.0 p.1) (take i (zip gs xs)) ++ ys) (append-nil (f g (view m))))
 

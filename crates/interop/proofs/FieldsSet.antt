@@ -1,6 +1,6 @@
 -- What an entry says once its fields have been set.
-use Rattle.std.specs.Option.{option_or}
-use Rattle.std.proofs.Common.{◌≡◌, ℕ, Bool, List, ap, ◌∙◌, Option, None, codes}
+use Rattle.std.specs.Option.{option_map, option_or}
+use Rattle.std.proofs.Common.{◌≡◌, ℕ, Bool, List, refl, ap, ◌∙◌, Option, Some, None, codes}
 use Rattle.literature_values.specs.declared.entry_type.EntryType.{EntryType}
 use Rattle.literature_numbers.specs.Numerics.{Numeral}
 use Rattle.literature_numbers.specs.Pages.{Part}
@@ -11,7 +11,7 @@ use Rattle.literature_values.specs.TypedViews.{ValueOrText}
 use Rattle.literature_values.specs.declared.date.Date.{Date}
 use Rattle.literature_entries.specs.Fields.{Fields, nothing_but}
 use Rattle.interop_values.specs.Values.{Values}
-use Rattle.interop.specs.Fields.{own_values, own_texts, container_values, container_texts, also, issue_of, issue_text, series_number, is_periodical}
+use Rattle.interop.specs.Fields.{own_fields, own_texts, container_fields, container_texts, also, issue_of, issue_text, series_number, is_periodical}
 use Rattle.interop_values.specs.Readings.{title_of, format_under, people_under, number_under, pages_under, bytes_under, publisher_of, own_date, date_under, date_if_read, address_of}
 use Rattle.interop.specs.Views.{IsBare}
 use Rattle.interop.proofs.ViewsEntries.{before_none}
@@ -74,44 +74,86 @@ put_number scheme x fs = record fs { serial_number = also scheme x fs.serial_num
 abbrev pub put_text : List ℕ → Option (List ℕ) → Fields → Fields
 put_text field x fs = record fs { written = also field x fs.written }
 
--- the texts of its numbers, set one by one
-pub own_texts_set : (v : Values) (fs : Fields) (total pages chapter : Option (List ℕ)) → total ≡ bytes_under (codes "pagetotal") v → pages ≡ bytes_under (codes "pages") v → chapter ≡ bytes_under (codes "chapter") v
-    → put_text (codes "chapter") chapter (put_text (codes "page-range") pages (put_text (codes "page-total") total fs)) ≡ record fs { written = own_texts v fs.written }
-own_texts_set v fs total pages chapter e_total e_pages e_chapter i =
-    record fs { written = also (codes "chapter") (e_chapter i) (also (codes "page-range") (e_pages i) (also (codes "page-total") (e_total i) fs.written)) }
+-- the numbers and the pages of the entry itself, and their texts
+abbrev pub put_own_numbers : Values → Fields → Fields
+put_own_numbers v fs = record fs {
+  page_total = option_or (number_under (codes "pagetotal") v) fs.page_total;
+  page_range = option_or (pages_under (codes "pages") v) fs.page_range;
+  chapter = option_or (number_under (codes "chapter") v) fs.chapter;
+  written = own_texts v fs.written;
+}
 
--- the texts of a container's numbers, likewise
-pub container_texts_set : (v : Values) (periodical : Bool) (fs : Fields) (issue edition total volume : Option (List ℕ)) → issue ≡ issue_text periodical v → edition ≡ bytes_under (codes "edition") v → total ≡ bytes_under (codes "volumes") v → volume ≡ bytes_under (codes "volume") v
-    → put_text (codes "volume") volume (put_text (codes "volume-total") total (put_text (codes "edition") edition (put_text (codes "issue") issue fs))) ≡ record fs { written = container_texts periodical v fs.written }
-container_texts_set v periodical fs issue edition total volume e_issue e_edition e_total e_volume i =
-    record fs { written = also (codes "volume") (e_volume i) (also (codes "volume-total") (e_total i) (also (codes "edition") (e_edition i) (also (codes "issue") (e_issue i) fs.written))) }
+-- the numbers of a container, and their texts
+abbrev pub put_container_numbers : Bool → Values → Fields → Fields
+put_container_numbers periodical v fs = record fs {
+  issue = option_or (issue_of periodical v) fs.issue;
+  edition = option_or (number_under (codes "edition") v) fs.edition;
+  volume_total = option_or (number_under (codes "volumes") v) fs.volume_total;
+  volume = option_or (number_under (codes "volume") v) fs.volume;
+  written = container_texts periodical v fs.written;
+}
+
+-- the first of two that were read together, by its view
+pub first_read : {A B V : Type 0} (view : A → V) (both : Option (A × B)) (x : Option A) (wanted : Option V) → x ≡ option_map (λ p. p.0) both → option_map (λ p. view p.0) both ≡ wanted → option_map view x ≡ wanted
+first_read view None x wanted is e = ap (option_map view) is ∙ e
+first_read view (Some p) x wanted is e = ap (option_map view) is ∙ e
+
+-- the second of them
+pub second_read : {A B V : Type 0} (view : B → V) (both : Option (A × B)) (x : Option B) (wanted : Option V) → x ≡ option_map (λ p. p.1) both → option_map (λ p. view p.1) both ≡ wanted → option_map view x ≡ wanted
+second_read view None x wanted is e = ap (option_map view) is ∙ e
+second_read view (Some p) x wanted is e = ap (option_map view) is ∙ e
+
+-- the numbers and the pages of the entry itself, set one by one with their texts
+pub own_numbers_set : (v : Values) (fs : Fields) (total : Option (ValueOrText Numeral)) (total_text : Option (List ℕ)) (pages : Option (ValueOrText (List Part))) (pages_text : Option (List ℕ)) (chapter : Option (ValueOrText Numeral)) (chapter_text : Option (List ℕ)) → total ≡ number_under (codes "pagetotal") v → total_text ≡ bytes_under (codes "pagetotal") v → pages ≡ pages_under (codes "pages") v → pages_text ≡ bytes_under (codes "pages") v → chapter ≡ number_under (codes "chapter") v → chapter_text ≡ bytes_under (codes "chapter") v
+    → put_text (codes "chapter") chapter_text (put_chapter chapter (put_text (codes "page-range") pages_text (put_page_range pages (put_text (codes "page-total") total_text (put_page_total total fs))))) ≡ put_own_numbers v fs
+own_numbers_set v fs total total_text pages pages_text chapter chapter_text e_total e_total_text e_pages e_pages_text e_chapter e_chapter_text i =
+    record fs {
+      page_total = option_or (e_total i) fs.page_total;
+      page_range = option_or (e_pages i) fs.page_range;
+      chapter = option_or (e_chapter i) fs.chapter;
+      written = also (codes "chapter") (e_chapter_text i) (also (codes "page-range") (e_pages_text i) (also (codes "page-total") (e_total_text i) fs.written));
+    }
+
+-- the numbers of a container, likewise
+pub container_numbers_set : (v : Values) (periodical : Bool) (fs : Fields) (issue : Option (ValueOrText Numeral)) (number_text : Option (List ℕ)) (edition : Option (ValueOrText Numeral)) (edition_text : Option (List ℕ)) (total : Option (ValueOrText Numeral)) (total_text : Option (List ℕ)) (volume : Option (ValueOrText Numeral)) (volume_text : Option (List ℕ)) → issue ≡ issue_of periodical v → number_text ≡ issue_text periodical v → edition ≡ number_under (codes "edition") v → edition_text ≡ bytes_under (codes "edition") v → total ≡ number_under (codes "volumes") v → total_text ≡ bytes_under (codes "volumes") v → volume ≡ number_under (codes "volume") v → volume_text ≡ bytes_under (codes "volume") v
+    → put_text (codes "volume") volume_text (put_volume volume (put_text (codes "volume-total") total_text (put_volume_total total (put_text (codes "edition") edition_text (put_edition edition (put_text (codes "issue") number_text (put_issue issue fs))))))) ≡ put_container_numbers periodical v fs
+container_numbers_set v periodical fs issue number_text edition edition_text total total_text volume volume_text e_issue e_number_text e_edition e_edition_text e_total e_total_text e_volume e_volume_text i =
+    record fs {
+      issue = option_or (e_issue i) fs.issue;
+      edition = option_or (e_edition i) fs.edition;
+      volume_total = option_or (e_total i) fs.volume_total;
+      volume = option_or (e_volume i) fs.volume;
+      written = also (codes "volume") (e_volume_text i) (also (codes "volume-total") (e_total_text i) (also (codes "edition") (e_edition_text i) (also (codes "issue") (e_number_text i) fs.written)));
+    }
 
 -- what an entry says of itself, set field by field
-pub own_set : (v : Values) (t : EntryType) (title : Option (Format)) (author : Option (List Named)) (translator : Option (List Named)) (date : Option (Date)) (chapter : Option (ValueOrText Numeral)) (page_range : Option (ValueOrText (List Part))) (page_total : Option (ValueOrText Numeral)) (url : Option (Address)) (doi : Option (List ℕ)) (note : Option (Format)) (language : Option (List ℕ)) → title ≡ title_of v → author ≡ people_under (codes "author") v → translator ≡ people_under (codes "translator") v → date ≡ date_if_read (own_date v) → chapter ≡ number_under (codes "chapter") v → page_range ≡ pages_under (codes "pages") v → page_total ≡ number_under (codes "pagetotal") v → url ≡ address_of (date_if_read (date_under (codes "urldate") v)) v → doi ≡ bytes_under (codes "doi") v → note ≡ format_under (codes "note") v → language ≡ bytes_under (codes "langid") v → put_language language (put_note note (put_number (codes "doi") doi (put_url url (put_page_total page_total (put_page_range page_range (put_chapter chapter (put_date date (put_translator translator (put_author author (put_title title (nothing_but t))))))))))) ≡ own_values v t
-own_set v t title author translator date chapter page_range page_total url doi note language e_title e_author e_translator e_date e_chapter e_page_range e_page_total e_url e_doi e_note e_language i =
+pub own_set : (v : Values) (t : EntryType) (title : Option (Format)) (author : Option (List Named)) (translator : Option (List Named)) (date : Option (Date)) (url : Option (Address)) (doi : Option (List ℕ)) (note : Option (Format)) (language : Option (List ℕ)) → title ≡ title_of v → author ≡ people_under (codes "author") v → translator ≡ people_under (codes "translator") v → date ≡ date_if_read (own_date v) → url ≡ address_of (date_if_read (date_under (codes "urldate") v)) v → doi ≡ bytes_under (codes "doi") v → note ≡ format_under (codes "note") v → language ≡ bytes_under (codes "langid") v → put_own_numbers v (put_language language (put_note note (put_number (codes "doi") doi (put_url url (put_date date (put_translator translator (put_author author (put_title title (nothing_but t))))))))) ≡ own_fields v t
+own_set v t title author translator date url doi note language e_title e_author e_translator e_date e_url e_doi e_note e_language i =
     record (nothing_but t) {
       title = (before_none title ∙ e_title) i;
       author = (before_none author ∙ e_author) i;
       translator = (before_none translator ∙ e_translator) i;
       date = (before_none date ∙ e_date) i;
-      chapter = (before_none chapter ∙ e_chapter) i;
-      page_range = (before_none page_range ∙ e_page_range) i;
-      page_total = (before_none page_total ∙ e_page_total) i;
+      chapter = before_none (number_under (codes "chapter") v) i;
+      page_range = before_none (pages_under (codes "pages") v) i;
+      page_total = before_none (number_under (codes "pagetotal") v) i;
       url = (before_none url ∙ e_url) i;
       serial_number = also (codes "doi") (e_doi i) None;
       note = (before_none note ∙ e_note) i;
       language = (before_none language ∙ e_language) i;
+      written = own_texts v None;
     }
 
 -- what the fields say of a container, set field by field
-pub container_set : (v : Values) (fs : Fields) (editor : Option (List Named)) (publisher : Option (Publishing)) (volume : Option (ValueOrText Numeral)) (volume_total : Option (ValueOrText Numeral)) (edition : Option (ValueOrText Numeral)) (isbn : Option (List ℕ)) (issn : Option (List ℕ)) (issue : Option (ValueOrText Numeral)) (serial : Option (List ℕ)) → IsBare fs → editor ≡ people_under (codes "editor") v → publisher ≡ publisher_of v → volume ≡ number_under (codes "volume") v → volume_total ≡ number_under (codes "volumes") v → edition ≡ number_under (codes "edition") v → isbn ≡ bytes_under (codes "isbn") v → issn ≡ bytes_under (codes "issn") v → issue ≡ issue_of (is_periodical fs.entry_type) v → serial ≡ series_number (is_periodical fs.entry_type) v → put_number (codes "serial") serial (put_issue issue (put_number (codes "issn") issn (put_number (codes "isbn") isbn (put_edition edition (put_volume_total volume_total (put_volume volume (put_publisher publisher (put_editor editor (fs))))))))) ≡ container_values v fs
-container_set v fs editor publisher volume volume_total edition isbn issn issue serial bare e_editor e_publisher e_volume e_volume_total e_edition e_isbn e_issn e_issue e_serial i =
+pub container_set : (v : Values) (fs : Fields) (periodical : Bool) (editor : Option (List Named)) (publisher : Option (Publishing)) (isbn : Option (List ℕ)) (issn : Option (List ℕ)) (serial : Option (List ℕ)) → IsBare fs → periodical ≡ is_periodical fs.entry_type → editor ≡ people_under (codes "editor") v → publisher ≡ publisher_of v → isbn ≡ bytes_under (codes "isbn") v → issn ≡ bytes_under (codes "issn") v → serial ≡ series_number periodical v → put_container_numbers periodical v (put_number (codes "serial") serial (put_number (codes "issn") issn (put_number (codes "isbn") isbn (put_publisher publisher (put_editor editor fs))))) ≡ container_fields v fs
+container_set v fs periodical editor publisher isbn issn serial bare e_periodical e_editor e_publisher e_isbn e_issn e_serial i =
     record fs {
       editor = set_first editor fs.editor _ bare.editor e_editor i;
       publisher = set_first publisher fs.publisher _ bare.publisher e_publisher i;
-      volume = set_first volume fs.volume _ bare.volume e_volume i;
-      volume_total = set_first volume_total fs.volume_total _ bare.volume_total e_volume_total i;
-      edition = set_first edition fs.edition _ bare.edition e_edition i;
-      issue = set_first issue fs.issue _ bare.issue e_issue i;
-      serial_number = also (codes "serial") (e_serial i) (also (codes "issn") (e_issn i) (also (codes "isbn") (e_isbn i) fs.serial_number));
+      volume = set_first (number_under (codes "volume") v) fs.volume _ bare.volume refl i;
+      volume_total = set_first (number_under (codes "volumes") v) fs.volume_total _ bare.volume_total refl i;
+      edition = set_first (number_under (codes "edition") v) fs.edition _ bare.edition refl i;
+      issue = set_first (issue_of periodical v) fs.issue _ bare.issue (ap (λ (b : Bool). issue_of b v) e_periodical) i;
+      serial_number = also (codes "serial") ((e_serial ∙ ap (λ (b : Bool). series_number b v) e_periodical) i) (also (codes "issn") (e_issn i) (also (codes "isbn") (e_isbn i) fs.serial_number));
+      written = container_texts (e_periodical i) v fs.written;
     }

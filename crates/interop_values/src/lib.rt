@@ -9,7 +9,7 @@ mod values;
 
 pub use dates::{date_under, library_date, own_date};
 pub use readings::{
-    address, format, format_if, format_under, number_under, pages_under, people_under, publisher,
-    text_under, title,
+    address, format, format_if, format_under, number_and_text_under, pages_and_text_under,
+    people_under, publisher, text_under, title,
 };
 pub use values::{text, value};

@@ -147,44 +147,55 @@ pub fn people_under(
     }
 }
 
-/// The numbers under a name, or the text where it spells none.
+/// The numbers under a name, or the text where it spells none, with the text as it is written.
 #[inline(always)]
-pub fn number_under(
+pub fn number_and_text_under(
     alloc: Global,
     fields: &Fields,
     name: &str,
-) -> Result<Option<MaybeTyped<Numeric>>, AllocError>
-    ensures { IfOk result (λ n. option_map (typed_view numeral_view) n
+) -> Result<Option<(MaybeTyped<Numeric>, String)>, AllocError>
+    ensures number { IfOk result (λ r. option_map (λ p. typed_view numeral_view p.0) r
         ≡ number_under name.now (values fields.now)) }
+    ensures text { IfOk result (λ r. option_map (λ p. string_bytes p.1) r
+        ≡ bytes_under name.now (values fields.now)) }
 {
     match value(fields, name) {
-        Some(value) => Ok(Some(number_of(alloc, value)?)),
+        Some(value) => Ok(Some(number_and_text_of(alloc, value)?)),
         None => Ok(None),
     }
 }
 
-/// The numbers that a content spells, or its text.
+/// The numbers that a content spells, or its text, with its text.
 #[inline(never)]
-fn number_of(alloc: Global, value: &[Spanned<Chunk>]) -> Result<MaybeTyped<Numeric>, AllocError>
-    ensures { IfOk result (λ n. typed_view numeral_view n ≡ number_of (styled value.now)) }
+fn number_and_text_of(
+    alloc: Global,
+    value: &[Spanned<Chunk>],
+) -> Result<(MaybeTyped<Numeric>, String), AllocError>
+    ensures number { IfOk result (λ p. typed_view numeral_view p.0
+        ≡ number_of (styled value.now)) }
+    ensures text { IfOk result (λ p. string_bytes p.1 ≡ bytes_of (styled value.now)) }
 {
     let text = plain_text(alloc, value)?;
-    MaybeTyped::<Numeric>::read(alloc, text.as_str())
+    let number = MaybeTyped::<Numeric>::read(alloc, text.as_str())?;
+    Ok((number, text))
 }
 
-/// The page ranges under a name, or the text where it spells none.
-pub fn pages_under(
+/// The page ranges under a name, or the text where it spells none, with the text as it is written.
+pub fn pages_and_text_under(
     alloc: Global,
     fields: &Fields,
     name: &str,
-) -> Result<Option<MaybeTyped<PageRanges>>, AllocError>
-    ensures { IfOk result (λ p. option_map (typed_view pages_view) p
+) -> Result<Option<(MaybeTyped<PageRanges>, String)>, AllocError>
+    ensures pages { IfOk result (λ r. option_map (λ p. typed_view pages_view p.0) r
         ≡ pages_under name.now (values fields.now)) }
+    ensures text { IfOk result (λ r. option_map (λ p. string_bytes p.1) r
+        ≡ bytes_under name.now (values fields.now)) }
 {
     match value(fields, name) {
         Some(value) => {
             let text = plain_text(alloc, value)?;
-            Ok(Some(MaybeTyped::<PageRanges>::read(alloc, text.as_str())?))
+            let pages = MaybeTyped::<PageRanges>::read(alloc, text.as_str())?;
+            Ok(Some((pages, text)))
         }
         None => Ok(None),
     }

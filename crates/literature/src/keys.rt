@@ -6,11 +6,12 @@ ghost use Rattle.literature.specs.KeysLeft.{keys_left};
 ghost use Rattle.literature_entries.specs.Views.{key_view};
 
 use literature_entries::Entry;
+use std::slice::Iter;
 
 /// The keys of entries, in their order.
 #[derive(Drop)]
 pub struct Keys<'a> {
-    rest: &'a [Entry],
+    rest: Iter<'a, Entry>,
 }
 
 impl<'a> Keys<'a> {
@@ -18,7 +19,9 @@ impl<'a> Keys<'a> {
     pub(crate) fn new(entries: &'a [Entry]) -> Keys<'a>
         ensures { keys_left result ≡ map key_view entries.now }
     {
-        Keys { rest: entries }
+        Keys {
+            rest: entries.iter(),
+        }
     }
 }
 
@@ -30,8 +33,9 @@ impl<'a> Iterator for Keys<'a> {
     ghost remaining = { item_count keys_left };
 
     fn next(&mut self) -> Option<&'a str> {
-        let (first, others) = self.rest.split_first()?;
-        self.rest = others;
-        Some(first.key())
+        match self.rest.next() {
+            Some(entry) => Some(entry.key()),
+            None => None,
+        }
     }
 }

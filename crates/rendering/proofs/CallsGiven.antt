@@ -5,19 +5,18 @@ use Rattle.rendering_context.specs.Cites.{CiteProperties, year_suffix_of}
 use Rattle.rendering_context.specs.Contexts.{Context}
 use Rattle.rendering_entries.specs.Answers.{Answers}
 use Rattle.rendering_leaves.specs.NodeSettings.{State}
-use Rattle.rendering_page.specs.Pages.{Quotes}
 use Rattle.rendering_style.specs.Styles.{Style}
 use Rattle.rendering_context.specs.Contexts.{StyleContext}
-use Rattle.rendering.specs.Purposes.{Rendered, context_of, in_words, rendered}
+use Rattle.rendering.specs.Purposes.{Rendered, context_of, in_words}
 use Rattle.rendering.specs.Views.{rendering_view}
 use Rattle.rendering.specs.Words.{CallWords, words_of}
 use Rattle.rendering.specs.declared.rendered.Rendering.{Rendering}
 
--- what was appended from the start on
-pub given_appended : {E : Type 0} (quotes : Quotes) (f : State → State) (start first now : State) (r : Result Rendering E) → first ≡ start → now ≡ f first
-    → IfOk r (λ v. rendering_view v ≡ rendered quotes now) → IfOk r (λ v. rendering_view v ≡ rendered quotes (f start))
-given_appended quotes f start first now r e h given =
-    IfOk-weaker r (λ v. rendering_view v ≡ rendered quotes now) (λ v. rendering_view v ≡ rendered quotes (f start)) (λ v known. known ∙ ap (rendered quotes) (h ∙ ap f e)) given
+-- what is given of what was appended from the start on
+pub given_appended : {E : Type 0} (g : State → Rendered) (f : State → State) (start first now : State) (r : Result Rendering E) → first ≡ start → now ≡ f first
+    → IfOk r (λ v. rendering_view v ≡ g now) → IfOk r (λ v. rendering_view v ≡ g (f start))
+given_appended g f start first now r e h given =
+    IfOk-weaker r (λ v. rendering_view v ≡ g now) (λ v. rendering_view v ≡ g (f start)) (λ v known. known ∙ ap g (h ∙ ap f e)) given
 
 module _ {E : Type 0} (x : StyleContext) (a : Answers) (p : CiteProperties) (b : Bool) (words : CallWords) (year_suffix : List ℕ) where
   -- what a call gives is what is given of what it prints from

@@ -14,18 +14,19 @@ use Rattle.rendering_style.specs.Options.{NameOptions}
 use Rattle.rendering_style.specs.Nodes.{names, no_nodes, node}
 use Rattle.rendering_style.specs.Styles.{Layout, Bibliography, Style}
 use Rattle.rendering_context.specs.Contexts.{Context}
-use Rattle.rendering_leaves.specs.NodeSettings.{SpecialForm, whole, author_only, without_author, authors_alone, without_names, State, append, noted}
+use Rattle.rendering_leaves.specs.NodeSettings.{SpecialForm, whole, author_only, without_author, first_date_only, authors_alone, without_names, State, append, noted}
 use Rattle.rendering_context.specs.Answering.{is_english}
 use Rattle.rendering_nodes.specs.Content.{contents, stage}
 use Rattle.rendering_nodes.specs.Named.{Named, AreAlike, joined_named, variable_named, always_named, named}
 use Rattle.rendering_nodes.specs.Laws.{with_answers}
 use Rattle.rendering_nodes.proofs.AnswersAlike.{AlikeAt, AlikeIn, alike_in, first_alike, others_alike, has_same}
 use Rattle.rendering_nodes.proofs.EntriesAlike.{labels_alike, surveys_same, contents_same}
-use Rattle.rendering.specs.Purposes.{layout_nodes, context_of, setting_of, append_layout, layout_survey, append_citation, citation_survey, append_own, year_dates, first_dated, append_year, author_variable, elsewhere, author_node, append_made, author_last, author_elsewhere, append_author, is_published, author_form, rest_form, prints_identifiers, space_before, append_enclosed, spaced_frame, prose_frame, append_framed, append_between, append_prose, form_of, begun_in, rendered_aligned, rendered, full_of, rendered_for, layout_frame, item_of}
+use Rattle.rendering.specs.Purposes.{layout_nodes, context_of, setting_of, append_layout, layout_survey, append_citation, citation_survey, append_own, year_dates, first_dated, append_year, author_variable, elsewhere, author_node, append_made, author_last, author_elsewhere, append_author, is_published, author_form, rest_form, prints_identifiers, space_before, append_enclosed, spaced_frame, prose_frame, append_framed, append_between, append_prose, form_of, begun_in, rendered_aligned, rendered, rendered_item, full_of, rendered_for, layout_frame, item_of}
 use Rattle.rendering.specs.Alike.{named_in_bibliography, layouts_named, style_named, AlikeCitesAreOne, AlikeItemsAreOne}
 use Rattle.rendering_taxonomy.specs.declared.cite.CitePurpose.{CitePurpose}
 use Rattle.rendering_taxonomy.specs.declared.cite.CitePurpose.TheVariants as purposes
 use Rattle.rendering_taxonomy.specs.declared.cite.CollapseVerdict.{CollapseVerdict}
+use Rattle.rendering_taxonomy.specs.declared.cite.CollapseVerdict.TheVariants as verdicts
 use Rattle.rendering_taxonomy.specs.declared.term.OtherTerm.TheVariants as others
 use Rattle.rendering_taxonomy.specs.declared.term.Term.TheVariants as terms
 use Rattle.rendering_taxonomy.specs.declared.term.TermForm.TheVariants as forms
@@ -189,16 +190,28 @@ prose_same a b c s st h =
     then between_same a b c s whole (unwrap_or s.citation.layout.prefix []) (unwrap_or s.citation.layout.suffix []) (authors i) h i
     else between_same a b c s (rest i) (unwrap_or s.citation.layout.prefix (open_parenthesis ∷ [])) (unwrap_or s.citation.layout.suffix (close_parenthesis ∷ [])) (authors i) h i
 
+-- what collapsing leaves of a cite
+form_same : (a b : Answers) (c : Context) (s : Style) (verdict : Option CollapseVerdict) → AlikeIn c.is_published always_named a b → form_of s (with_answers a c) verdict ≡ form_of s (with_answers b c) verdict
+form_same a b c s None h = refl
+form_same a b c s (Some verdicts.First) h = ap (λ v. if is_published s then without_names v else first_date_only) (variable_same a b c h)
+form_same a b c s (Some verdicts.YearSuffix) h = refl
+
+left_same : (a b : Answers) (c : Context) (s : Style) (verdict : Option CollapseVerdict) → StyleAlike c.is_published s a b
+    → rendered c.quotes (append_citation s (with_answers a c) (form_of s (with_answers a c) verdict) (begun_in s)) ≡ rendered c.quotes (append_citation s (with_answers b c) (form_of s (with_answers b c) verdict) (begun_in s))
+left_same a b c s verdict h =
+    ap (λ form. rendered c.quotes (append_citation s (with_answers a c) form (begun_in s))) (form_same a b c s verdict h.always)
+    ∙ ap (rendered c.quotes) (citation_same a b c s (form_of s (with_answers b c) verdict) (begun_in s) h)
+
 -- the whole item
 full_same : (a b : Answers) (c : Context) (s : Style) (verdict : Option CollapseVerdict) (o : Option Bibliography) → StyleAlike c.is_published s a b → AlikeIn c.is_published (named_in_bibliography s o) a b
     → full_of s (with_answers a c) verdict o ≡ full_of s (with_answers b c) verdict o
-full_same a b c s verdict None h k = ap (rendered c.quotes) (citation_same a b c s (form_of verdict) (begun_in s) h)
+full_same a b c s verdict None h k = left_same a b c s verdict h
 full_same a b c s verdict (Some y) h k =
     ap (rendered_aligned c.quotes y.second_field_align) (layout_same a b c s y.layout y.name_options whole (begun_in s) h.always k)
 
 purpose_same : (a b : Answers) (c : Context) (s : Style) (verdict : Option CollapseVerdict) (purpose : Option CitePurpose) → StyleAlike c.is_published s a b
     → rendered_for s (with_answers a c) verdict purpose ≡ rendered_for s (with_answers b c) verdict purpose
-purpose_same a b c s verdict None h = ap (rendered c.quotes) (citation_same a b c s (form_of verdict) (begun_in s) h)
+purpose_same a b c s verdict None h = left_same a b c s verdict h
 purpose_same a b c s verdict (Some purposes.Author) h = ap (rendered c.quotes) (author_same a b c s (begun_in s) h)
 purpose_same a b c s verdict (Some purposes.Year) h = ap (rendered c.quotes) (year_same a b c (begun_in s) h.always)
 purpose_same a b c s verdict (Some purposes.Full) h = full_same a b c s verdict s.bibliography h h.in_bibliography
@@ -212,7 +225,7 @@ item_same : (a b : Answers) (c : Context) (s : Style) (o : Option Bibliography) 
     → option_map (item_of s (with_answers a c)) o ≡ option_map (item_of s (with_answers b c)) o
 item_same a b c s None g h = refl
 item_same a b c s (Some y) g h =
-    ap (λ st. Some (rendered c.quotes (append c (end (layout_frame y.layout) ∷ []) st)))
+    ap (λ st. Some (rendered_item c.quotes (append c (end (layout_frame y.layout) ∷ []) st)))
     (layout_same a b c s y.layout y.name_options whole (append c (begin (layout_frame y.layout) ∷ []) (begun_in s)) g h)
 
 pub items_alike : AlikeItemsAreOne

@@ -2,6 +2,8 @@ pub mod AlikeGiven
 pub mod CitesAlike
 pub mod Texts
 pub mod Spacing
+pub mod TrimmedEnds
+pub mod LastBlocks
 pub mod AuthorNodeIs
 pub mod FieldJoined
 pub mod CallsGiven

@@ -63,7 +63,7 @@ after_opening c d m (closing ∷ ts) = ap (λ vs. closing ∷ vs) (after_opening
 after_opening c d m (mark ∷ ts) = ap (λ vs. mark ∷ vs) (after_opening c d m ts)
 after_opening c d m (unmark ∷ ts) = ap (λ vs. unmark ∷ vs) (after_opening c d m ts)
 
-or_false : (b : Bool) → b || false ≡ b
+pub or_false : (b : Bool) → b || false ≡ b
 or_false true = refl
 or_false false = refl
 
@@ -106,11 +106,11 @@ text_end f [] = refl
 text_end f (c ∷ cs) = letter_end f c cs []
 
 -- children
-flat-append : (xs ys : List ElemChild) → flat (children_view (xs ++ ys)) ≡ flat (children_view ys) ++ flat (children_view xs)
+pub flat-append : (xs ys : List ElemChild) → flat (children_view (xs ++ ys)) ≡ flat (children_view ys) ++ flat (children_view xs)
 flat-append [] ys = sym (append-nil (flat (children_view ys)))
 flat-append (x ∷ xs) ys = ap (λ ts. ts ++ flat_child (child_view x)) (flat-append xs ys) ∙ append_assoc (flat (children_view ys)) (flat (children_view xs)) (flat_child (child_view x))
 
-parts : (xs : List ElemChild) (i : ℕ) → flat (children_view xs) ≡ flat (children_view (drop i xs)) ++ flat (children_view (take i xs))
+pub parts : (xs : List ElemChild) (i : ℕ) → flat (children_view xs) ≡ flat (children_view (drop i xs)) ++ flat (children_view (take i xs))
 parts xs i = ap (λ ys. flat (children_view ys)) (sym (take-append-drop i xs)) ∙ flat-append (take i xs) (drop i xs)
 
 -- Nothing is printed by the children from an index on; the others are as they were, or print the same.

@@ -4,5 +4,6 @@ pub mod Purposes
 pub mod Alike
 pub mod Views
 pub mod Ends
+pub mod Blocks
 pub mod AuthorNodes
 pub mod LeftOpen

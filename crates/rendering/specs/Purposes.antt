@@ -7,7 +7,7 @@ use Rattle.laws.specs.Characters.{space, open_parenthesis, close_parenthesis}
 use Rattle.laws.specs.Text.{is_filled}
 use Rattle.rendering_taxonomy.specs.Formats.{plain, changed}
 use Rattle.rendering_tree.specs.Tokens.{Token, with_letter_after}
-use Rattle.rendering_tree.specs.Trees.{Children, Elem, tree_of, flat, flat_child, Parted, parted}
+use Rattle.rendering_tree.specs.Trees.{Children, Elem, Element, tree_of, flat, flat_child, names_element, Parted, parted}
 use Rattle.rendering_locale.specs.Lookup.{term}
 use Rattle.literature_values.specs.declared.date.Date.{Date}
 use Rattle.rendering_dates.specs.Dates.{years_text}
@@ -29,6 +29,8 @@ use Rattle.rendering_context.specs.Answering.{has_answer, is_english}
 use Rattle.rendering_nodes.specs.Admission.{Survey, surveys}
 use Rattle.rendering_nodes.specs.Content.{stage, contents}
 use Rattle.rendering_nodes.specs.Named.{has_suffix}
+use Rattle.rendering.specs.Blocks.{text_in_block}
+use Rattle.rendering.specs.Ends.{trimmed_tree}
 use Rattle.rendering.specs.Words.{CallWords, words_of}
 use Rattle.rendering_taxonomy.specs.declared.cite.CitePurpose.{CitePurpose}
 use Rattle.rendering_taxonomy.specs.declared.cite.CitePurpose.TheVariants as purposes
@@ -258,11 +260,13 @@ append_prose s c st =
     then append_between s c whole (unwrap_or s.citation.layout.prefix []) (unwrap_or s.citation.layout.suffix []) (append_author s c st)
     else append_between s c (rest_form s c) (unwrap_or s.citation.layout.prefix (open_parenthesis ∷ [])) (unwrap_or s.citation.layout.suffix (close_parenthesis ∷ [])) (append_author s c st)
 
--- what collapsing leaves of a cite
-abbrev pub form_of : Option CollapseVerdict → SpecialForm
-form_of None = whole
-form_of (Some verdicts.First) = first_date_only
-form_of (Some verdicts.YearSuffix) = suffix_only
+-- What collapsing leaves of a cite: all of it; all but the authors, or in a style that is not published the first date alone; or
+-- its year suffix alone.
+abbrev pub form_of : Style → Context → Option CollapseVerdict → SpecialForm
+form_of s c None = whole
+form_of s c (Some verdicts.First) =
+    if is_published s then without_names (author_variable c) else first_date_only
+form_of s c (Some verdicts.YearSuffix) = suffix_only
 
 -- a space after a first field in front; on a page that joins texts what the style says parts it from the others
 abbrev pub parted_off : PageRule → List Token → List Token
@@ -285,17 +289,18 @@ usage_by true false = usages.OnlyCitationLabel
 usage_by false true = usages.OnlyCitationNumber
 usage_by true true = usages.Mixed
 
--- What a call gives: a tree; whether the test `disambiguate` was evaluated; what was printed of the first names by their options; and which
--- identifiers were printed.
+-- What a call gives: a tree; whether the test `disambiguate` was evaluated; what was printed of the first names by their options; which
+-- identifiers were printed; and of an item its first names, in a published style as they were before texts met.
 pub record Rendered : Type 0 where
   pub tree : Children
   pub met_disambiguate : Bool
   pub names : Option Properties
   pub usage : IdentifierUsage
+  pub first_names : Option Element
 
 -- a tree with the facts of a call
 abbrev pub rendered_as : Children → State → Rendered
-rendered_as tree st = record { tree = tree; met_disambiguate = st.met_disambiguate; names = st.names; usage = usage_by st.used.label st.used.number }
+rendered_as tree st = record { tree = tree; met_disambiguate = st.met_disambiguate; names = st.names; usage = usage_by st.used.label st.used.number; first_names = None }
 
 -- the state before anything was appended, on a page by the style's rule
 abbrev pub begun_in : Style → State
@@ -313,14 +318,39 @@ rendered_aligned quotes align st = rendered_as (fields_joined align (completed q
 abbrev pub rendered : Quotes → State → Rendered
 rendered quotes st = rendered_aligned quotes None st
 
+-- an item that ends in no white space, nor in a text after a block, which stands in that
+abbrev pub finished_item : Rendered → Rendered
+finished_item r = record r { tree = trimmed_tree (text_in_block r.tree) }
+
+-- the first names of what was appended, before its texts meet
+abbrev pub names_before_meeting : State → Option Element
+names_before_meeting st = names_element (tree_of st.page.tokens)
+
+-- what is rendered with these first names
+abbrev pub with_first_names : Option Element → Rendered → Rendered
+with_first_names first r = record r { first_names = first }
+
+-- what is rendered with the first names of its tree
+abbrev pub with_names_of_tree : Rendered → Rendered
+with_names_of_tree r = with_first_names (names_element r.tree) r
+
+-- what is rendered of an item; in a published style it ends so, and its first names are those from before texts met
+abbrev pub rendered_item : Quotes → State → Rendered
+rendered_item quotes st =
+    if st.is_published
+    then with_first_names (names_before_meeting st) (finished_item (rendered quotes st))
+    else with_names_of_tree (rendered quotes st)
+
 -- the whole item, or without a bibliography what is printed for no purpose
 abbrev pub full_of : Style → Context → Option CollapseVerdict → Option Bibliography → Rendered
-full_of s c verdict None = rendered c.quotes (append_citation s c (form_of verdict) (begun_in s))
+full_of s c verdict None =
+    rendered c.quotes (append_citation s c (form_of s c verdict) (begun_in s))
 full_of s c verdict (Some b) = rendered_aligned c.quotes b.second_field_align (append_bibliography s c whole b (begun_in s))
 
 -- a cite by its purpose
 abbrev pub rendered_for : Style → Context → Option CollapseVerdict → Option CitePurpose → Rendered
-rendered_for s c verdict None = rendered c.quotes (append_citation s c (form_of verdict) (begun_in s))
+rendered_for s c verdict None =
+    rendered c.quotes (append_citation s c (form_of s c verdict) (begun_in s))
 rendered_for s c verdict (Some purposes.Author) = rendered c.quotes (append_author s c (begun_in s))
 rendered_for s c verdict (Some purposes.Year) = rendered c.quotes (append_year c (begun_in s))
 rendered_for s c verdict (Some purposes.Full) = full_of s c verdict s.bibliography
@@ -340,7 +370,7 @@ append_item s c b st = append c (end (layout_frame b.layout) ∷ []) (append_bib
 
 -- an item of the bibliography
 abbrev pub item_of : Style → Context → Bibliography → Rendered
-item_of s c b = rendered c.quotes (append_item s c b (begun_in s))
+item_of s c b = rendered_item c.quotes (append_item s c b (begun_in s))
 
 -- what a call prints of an item of the bibliography, where the style has one
 abbrev pub bibliography : StyleContext → Answers → CiteProperties → Option (List ℕ) → Option Rendered

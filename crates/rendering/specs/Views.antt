@@ -1,11 +1,12 @@
 -- The code's values without where they lie in memory.
+use Rattle.std.specs.Option.{option_map}
 use Rattle.rendering_context.specs.Contexts as contexts
 use Rattle.rendering_context.specs.Contexts.{Context}
 use Rattle.rendering_context.specs.Views.{context_view}
 use Rattle.rendering_entries.specs.Answers.{Answers}
 use Rattle.rendering_style.specs.Styles.{Style}
 use Rattle.rendering_style.specs.StyleViews.{style_view}
-use Rattle.rendering_tree.specs.Views.{tree_view}
+use Rattle.rendering_tree.specs.Views.{element_view, tree_view}
 use Rattle.rendering.specs.Purposes as purposes
 use Rattle.rendering.specs.StyleContexts.{style_context_of}
 use Rattle.rendering.specs.declared.call.Call.{Call}
@@ -26,4 +27,4 @@ context_in a c = context_view a c.walk.context
 
 -- what a call gives
 abbrev pub rendering_view : Rendering → purposes.Rendered
-rendering_view r = record { tree = tree_view r.tree; met_disambiguate = r.met_disambiguate; names = r.names; usage = r.identifier_usage }
+rendering_view r = record { tree = tree_view r.tree; met_disambiguate = r.met_disambiguate; names = r.names; usage = r.identifier_usage; first_names = option_map (λ e. element_view e) r.first_names }

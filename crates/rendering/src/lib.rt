@@ -3,6 +3,7 @@
 
 mod author;
 mod author_node;
+mod blocks;
 mod call;
 mod cite_laws;
 mod default_texts;
@@ -14,6 +15,7 @@ mod purpose;
 mod rendered;
 mod second_field;
 mod style_context;
+mod trimming;
 mod year;
 
 pub use cite_laws::alike_cites_are_one;
@@ -122,3 +124,4 @@ pub use rendering_tree::ElemMeta;
 pub use rendering_tree::Formatted;
 pub use rendering_tree::simplify_children;
 pub use style_context::StyleContext;
+pub use trimming::trim_end;

@@ -21,6 +21,14 @@ use rendering_taxonomy::StyleCategory;
 use std::alloc::AllocError;
 use texts::{no_text, split_first, text_or_empty};
 
+/// A form of the citation, with the texts before and after it.
+#[derive(Clone, Copy)]
+struct EnclosedForm<'a> {
+    form: SpecialForm,
+    prefix: &'a str,
+    suffix: &'a str,
+}
+
 impl<'s, 'a> Call<'s, 'a> {
     /// Appends the authors, then the citation in its affixes; where cites are no numbers or labels, without the authors, and in
     /// parentheses if not in affixes.
@@ -38,12 +46,23 @@ impl<'s, 'a> Call<'s, 'a> {
         if prints_identifiers(parts) {
             let prefix = text_or_empty(&layout.prefix);
             let suffix = text_or_empty(&layout.suffix);
-            self.push_between(entry, SpecialForm::Whole, prefix, suffix, state)
+            let form = SpecialForm::Whole;
+            let enclosed = EnclosedForm {
+                form,
+                prefix,
+                suffix,
+            };
+            self.push_between(entry, &enclosed, state)
         } else {
             let form = self.rest_form(entry)?;
             let prefix = text_or_open(&layout.prefix);
             let suffix = text_or_close(&layout.suffix);
-            self.push_between(entry, form, prefix, suffix, state)
+            let enclosed = EnclosedForm {
+                form,
+                prefix,
+                suffix,
+            };
+            self.push_between(entry, &enclosed, state)
         }
     }
 
@@ -63,39 +82,37 @@ impl<'s, 'a> Call<'s, 'a> {
     fn push_between<E: EntryLike>(
         &self,
         entry: &'a E,
-        form: SpecialForm,
-        prefix: &'a str,
-        suffix: &'a str,
+        enclosed: &EnclosedForm<'a>,
         state: &mut State<'a>,
     ) -> Result<(), AllocError>
         ensures { OnOk result (state.new
             ≡ append_between (style_of self.now) (context_in (E.answers entry.entry.now) self.now)
-            (form_view form) (spelled prefix.entry) (spelled suffix.entry) state.old) }
+            (form_view enclosed.now.form) (spelled enclosed.now.prefix)
+            (spelled enclosed.now.suffix) state.old) }
     {
         if is_published(self.walk.style) {
-            return self.push_framed(entry, form, prefix, suffix, state);
+            return self.push_framed(entry, enclosed, state);
         }
-        self.push_enclosed(entry, form, prefix, suffix, state)
+        self.push_enclosed(entry, enclosed, state)
     }
 
     /// Appends a form of the citation between two texts, after a space; nothing where the citation prints nothing.
     fn push_framed<E: EntryLike>(
         &self,
         entry: &'a E,
-        form: SpecialForm,
-        prefix: &'a str,
-        suffix: &'a str,
+        enclosed: &EnclosedForm<'a>,
         state: &mut State<'a>,
     ) -> Result<(), AllocError>
         ensures { OnOk result (state.new
             ≡ append_framed (style_of self.now) (context_in (E.answers entry.entry.now) self.now)
-            (form_view form) (spelled prefix.entry) (spelled suffix.entry) state.old) }
+            (form_view enclosed.now.form) (spelled enclosed.now.prefix)
+            (spelled enclosed.now.suffix) state.old) }
     {
-        let spaced = spaced_frame(prefix, state);
-        let frame = self.prose_frame(prefix, suffix);
+        let spaced = spaced_frame(enclosed.prefix, state);
+        let frame = self.prose_frame(enclosed.prefix, enclosed.suffix);
         state.page.begin(&spaced)?;
         state.page.begin(&frame)?;
-        self.push_citation(entry, form, state)?;
+        self.push_citation(entry, enclosed.form, state)?;
         state.page.end(self.walk.context.quotes, &frame)?;
         state.page.end(self.walk.context.quotes, &spaced)
     }
@@ -118,19 +135,18 @@ impl<'s, 'a> Call<'s, 'a> {
     fn push_enclosed<E: EntryLike>(
         &self,
         entry: &'a E,
-        form: SpecialForm,
-        prefix: &'a str,
-        suffix: &'a str,
+        enclosed: &EnclosedForm<'a>,
         state: &mut State<'a>,
     ) -> Result<(), AllocError>
         ensures { OnOk result (state.new
             ≡ append_enclosed (style_of self.now) (context_in (E.answers entry.entry.now) self.now)
-            (form_view form) (spelled prefix.entry) (spelled suffix.entry) state.old) }
+            (form_view enclosed.now.form) (spelled enclosed.now.prefix)
+            (spelled enclosed.now.suffix) state.old) }
     {
-        push_space_before(prefix, state)?;
-        self.push_own(prefix, state)?;
-        self.push_citation(entry, form, state)?;
-        self.push_own(suffix, state)?;
+        push_space_before(enclosed.prefix, state)?;
+        self.push_own(enclosed.prefix, state)?;
+        self.push_citation(entry, enclosed.form, state)?;
+        self.push_own(enclosed.suffix, state)?;
         Ok(())
     }
 }

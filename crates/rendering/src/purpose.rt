@@ -8,7 +8,7 @@ ghost use Rattle.rendering.specs.Views.{context_in, rendering_view, style_of};
 
 use crate::call::Call;
 use crate::layout::{is_published, layout_frame};
-use crate::rendered::{Rendering, rendered, rendered_aligned};
+use crate::rendered::{Rendering, rendered, rendered_aligned, rendered_item};
 use rendering_entries::EntryLike;
 use rendering_leaves::{SpecialForm, State};
 use rendering_page::Page;
@@ -47,7 +47,7 @@ impl<'s, 'a> Call<'s, 'a> {
     {
         let mut state = self.begun();
         self.push_item(entry, bibliography, &mut state)?;
-        rendered(self.walk.context.quotes, state)
+        rendered_item(self.walk.context.quotes, state)
     }
 
     /// What collapsing leaves of a cite.
@@ -60,7 +60,8 @@ impl<'s, 'a> Call<'s, 'a> {
             (context_in (E.answers entry.entry.now) self.now) verdict None) }
     {
         let mut state = self.begun();
-        self.push_citation(entry, form_of(verdict), &mut state)?;
+        let form = self.form_of(entry, verdict)?;
+        self.push_citation(entry, form, &mut state)?;
         rendered(self.walk.context.quotes, state)
     }
 
@@ -153,15 +154,32 @@ impl<'s, 'a> Call<'s, 'a> {
         self.push_bibliography(entry, SpecialForm::Whole, bibliography, state)?;
         state.page.end(self.walk.context.quotes, &frame)
     }
-}
 
-/// The form of a cite of which collapsing leaves so much.
-fn form_of(verdict: Option<CollapseVerdict>) -> SpecialForm
-    ensures { form_view result ≡ form_of verdict }
-{
-    match verdict {
-        None => SpecialForm::Whole,
-        Some(CollapseVerdict::First) => SpecialForm::FirstDateOnly,
-        Some(CollapseVerdict::YearSuffix) => SpecialForm::SuffixOnly,
+    /// The form of a cite of which collapsing leaves so much.
+    fn form_of<E: EntryLike>(
+        &self,
+        entry: &'a E,
+        verdict: Option<CollapseVerdict>,
+    ) -> Result<SpecialForm, AllocError>
+        ensures { IfOk result (λ f. form_view f ≡ form_of (style_of self.now)
+            (context_in (E.answers entry.entry.now) self.now) verdict) }
+    {
+        match verdict {
+            None => Ok(SpecialForm::Whole),
+            Some(CollapseVerdict::First) => self.later_form(entry),
+            Some(CollapseVerdict::YearSuffix) => Ok(SpecialForm::SuffixOnly),
+        }
+    }
+
+    /// The form of a later cite where years are collapsed: all but the authors, or in a style that is not published the first date.
+    fn later_form<E: EntryLike>(&self, entry: &'a E) -> Result<SpecialForm, AllocError>
+        ensures { IfOk result (λ f. form_view f ≡ form_of (style_of self.now)
+            (context_in (E.answers entry.entry.now) self.now) (Some CollapseVerdict.First)) }
+    {
+        if is_published(self.walk.style) {
+            let variable = self.author_variable(entry)?;
+            return Ok(SpecialForm::WithoutNames(variable));
+        }
+        Ok(SpecialForm::FirstDateOnly)
     }
 }

@@ -1,5 +1,5 @@
 -- Parts of some dates, years of ranges, and the parts that the sides of ranges print.
-use Rattle.std.proofs.Common.{◌≡◌, ℕ, List, [], ◌∷◌, ◌++◌, Option, Some, None, false, codes, pos, refl}
+use Rattle.std.proofs.Common.{◌≡◌, ℕ, List, [], ◌∷◌, ◌++◌, Option, Some, None, true, false, codes, pos, refl}
 use Rattle.std.specs.Fmt.{digits}
 use Rattle.literature_values.specs.declared.date.Date.{Date}
 use Rattle.literature_values.specs.declared.date.DateEnd.{DateEnd}
@@ -42,6 +42,18 @@ second_of_january = refl
 pub day_without_endings : part_text [] (date 2014 (Some 0) (Some 1) None) (Day days.Ordinal) ≡ codes "2"
 unfolding digits
 day_without_endings = refl
+
+-- a locale by which of the days only the first is an ordinal number
+abbrev limited : Locale
+limited = record english { limits_day_ordinals = Some true }
+
+pub first_of_january : part_text (limited ∷ []) (date 2014 (Some 0) (Some 0) None) (Day days.Ordinal) ≡ codes "1st"
+unfolding digits
+first_of_january = refl
+
+pub second_in_digits : part_text (limited ∷ []) (date 2014 (Some 0) (Some 1) None) (Day days.Ordinal) ≡ codes "2"
+unfolding digits
+second_in_digits = refl
 
 pub no_day : part_text [] (date 2014 (Some 0) None None) (Day days.Numeric) ≡ []
 no_day = refl

@@ -1,5 +1,5 @@
 -- Dates as they are printed, alone and as ranges. A side of a range is viewed as a date of its own.
-use Rattle.std.specs.Prelude.{ℕ, ◌+◌, Bool, true, false, not, ◌&&◌, ◌||◌, List, [], ◌∷◌, ◌++◌, filter, if◌then◌else◌, Option, Some, None, ℤ, pos, codes}
+use Rattle.std.specs.Prelude.{ℕ, ◌+◌, ◌==◌, Bool, true, false, not, ◌&&◌, ◌||◌, List, [], ◌∷◌, ◌++◌, filter, if◌then◌else◌, Option, Some, None, ℤ, pos, codes}
 use Rattle.std.specs.List.{find, flat_map}
 use Rattle.std.specs.Option.{option_and_then, option_map_or, unwrap_or}
 use Rattle.std.specs.Ordering.{int_eq}
@@ -12,7 +12,7 @@ use Rattle.literature_values.specs.declared.date.DateEnd.{DateEnd}
 use Rattle.literature_values.specs.declared.date.DateEnd.TheVariants.{On, Open}
 use Rattle.rendering_taxonomy.specs.Formats.{changed}
 use Rattle.rendering_locale.specs.Locales.{Locale, DatePart}
-use Rattle.rendering_locale.specs.Lookup.{term, term_text, ordinals_of}
+use Rattle.rendering_locale.specs.Lookup.{term, term_text, limits_day_ordinals, ordinals_of}
 use Rattle.rendering_numbers.specs.Numbers.{ordinal_text}
 use Rattle.rendering_numbers.specs.Years.{year_text}
 use Rattle.rendering_page.specs.Pages.{Manner, uncased, with_case, Frame, empty_page}
@@ -50,11 +50,20 @@ is_short lengths.Short = true
 abbrev pub year_by : List Locale → LongShortForm → ℤ → List ℕ
 year_by ls form y = year_text y (is_short form) (ad_text ls) (bc_text ls)
 
+-- whether a day, which counts from zero, is no ordinal number: one after the first, where of the days only the first is one
+abbrev pub is_past_ordinals : List Locale → ℕ → Bool
+is_past_ordinals ls d = not (d == 0) && limits_day_ordinals ls
+
+-- a day as an ordinal number, or in digits alone where it is none
+abbrev pub ordinal_day : List Locale → ℕ → List ℕ
+ordinal_day ls d =
+    if is_past_ordinals ls d then decimal (d + 1) else ordinal_text (ordinals_of ls) (pos (d + 1))
+
 -- a day by its form; days count from zero
 abbrev pub day_by : List Locale → DateDayForm → ℕ → List ℕ
 day_by ls days.Numeric d = decimal (d + 1)
 day_by ls days.TwoDigits d = padded 2 (d + 1)
-day_by ls days.Ordinal d = ordinal_text (ordinals_of ls) (pos (d + 1))
+day_by ls days.Ordinal d = ordinal_day ls d
 
 -- a month by its form; months count from zero, and one without a term is empty
 abbrev pub month_by : List Locale → DateMonthForm → ℕ → List ℕ

@@ -5,7 +5,7 @@ ghost use Rattle.std.specs.Fmt.{decimal};
 ghost use Rattle.std.specs.Option.{option_map_or};
 ghost use Rattle.date_parts.specs.Written.{padded};
 ghost use Rattle.laws.specs.Text.{characters, is_filled};
-ghost use Rattle.rendering_dates.specs.Dates.{day_by, month_by, part_text, year_by};
+ghost use Rattle.rendering_dates.specs.Dates.{day_by, is_past_ordinals, month_by, ordinal_day, part_text, year_by};
 ghost use Rattle.rendering_dates.specs.Views.{part_text_view};
 ghost use Rattle.rendering_locale.specs.Lookup.{ordinals_of, term_text};
 ghost use Rattle.rendering_numbers.specs.Numbers.{ordinal_text};
@@ -72,7 +72,29 @@ fn day_text<'a>(
     match form {
         DateDayForm::Numeric => counted(alloc, day),
         DateDayForm::TwoDigits => counted_in_two_digits(alloc, day),
-        DateDayForm::Ordinal => counted_with_ending(alloc, locales, day),
+        DateDayForm::Ordinal => ordinal_day(alloc, locales, day),
+    }
+}
+
+/// Whether a day, which counts from zero, is no ordinal number: one after the first, where of the days only the first is one.
+fn is_past_ordinals(locales: &AskedLocales, day: u8) -> bool
+    ensures { result ≡ is_past_ordinals locales.now day }
+{
+    day != 0 && locales.limits_day_ordinals()
+}
+
+/// A day, which counts from zero, as an ordinal number, or in digits alone where it is none.
+fn ordinal_day<'a>(
+    alloc: Global,
+    locales: &AskedLocales<'a>,
+    day: u8,
+) -> Result<PartText<'a>, AllocError>
+    ensures { IfOk result (λ t. part_text_view t ≡ ordinal_day locales.now day) }
+{
+    if is_past_ordinals(locales, day) {
+        counted(alloc, day)
+    } else {
+        counted_with_ending(alloc, locales, day)
     }
 }
 

@@ -4,4 +4,5 @@ pub mod StatesAppended
 pub mod SuffixesCased
 pub mod LeavesAppended
 pub mod QuotesInside
+pub mod LinksHeld
 pub mod WordsPrinted

@@ -1,5 +1,6 @@
 pub mod NodeSettings
 pub mod Quoted
+pub mod Links
 pub mod Values
 pub mod Views
 pub mod Parts

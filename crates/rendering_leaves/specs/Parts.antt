@@ -9,23 +9,26 @@ use Rattle.rendering_tree.specs.Metas as metas
 use Rattle.rendering_names.specs.Names.{pluralizes, label_manner}
 use Rattle.rendering_context.specs.Contexts.{Context}
 use Rattle.rendering_context.specs.Answering.{Answer}
+use Rattle.rendering_leaves.specs.Links.{look_before}
 use Rattle.rendering_leaves.specs.NodeSettings.{NodeSetting}
 use Rattle.rendering_leaves.specs.Values.{frame, text_manner, number_manner, date_manner, quote_before, quote_after, identified, answer_pieces, label_suffix, label_term, date_frame, date_inside}
 use Rattle.rendering_taxonomy.specs.declared.number.NumberForm.TheVariants as number_forms
 use Rattle.rendering_taxonomy.specs.declared.variable.Variable.{Variable}
 
--- what stands before the text of a text node: its prefix and its quote
-abbrev pub before_text : Context → NodeSetting → TextLook → List Piece
-before_text c s look = begin (frame s.manner (Some metas.Text) look.look) ∷ quote_before c (text_manner s.manner look) look.quotes s.inside_quotes
+-- what stands before the text of a text node: its prefix, or so much of it as stands before a link, and its quote
+abbrev pub before_text : Context → NodeSetting → Option (List ℕ) → TextLook → List Piece
+before_text c s before look =
+    begin (frame s.manner (Some metas.Text) (look_before before look.look)) ∷ quote_before c (text_manner s.manner look) look.quotes s.inside_quotes
 
 -- what stands after it: its quote and its suffix
-abbrev pub after_text : Context → NodeSetting → TextLook → List Piece
-after_text c s look = quote_after c (text_manner s.manner look) look.quotes s.inside_quotes ++ end (frame s.manner (Some metas.Text) look.look) ∷ []
+abbrev pub after_text : Context → NodeSetting → Option (List ℕ) → TextLook → List Piece
+after_text c s before look =
+    quote_after c (text_manner s.manner look) look.quotes s.inside_quotes ++ end (frame s.manner (Some metas.Text) (look_before before look.look)) ∷ []
 
 -- pieces in a text node
-abbrev pub in_text : Context → NodeSetting → TextLook → List Piece → List Piece
-in_text c s look ps =
-    framed (frame s.manner (Some metas.Text) look.look)
+abbrev pub in_text : Context → NodeSetting → Option (List ℕ) → TextLook → List Piece → List Piece
+in_text c s before look ps =
+    framed (frame s.manner (Some metas.Text) (look_before before look.look))
     (quote_before c (text_manner s.manner look) look.quotes s.inside_quotes
     ++ ps
     ++ quote_after c (text_manner s.manner look) look.quotes s.inside_quotes)

@@ -1,7 +1,9 @@
 -- What text, number, label and date nodes append.
 use Rattle.std.specs.Prelude.{ℕ, Bool, true, false, not, ◌&&◌, ◌||◌, List, [], ◌∷◌, ◌++◌, map, if◌then◌else◌, Option, Some, None}
+use Rattle.std.specs.Char.{is_whitespace}
 use Rattle.std.specs.List.{list_any}
 use Rattle.std.specs.Option.{option_and_then, option_map_or, unwrap_or}
+use Rattle.laws.specs.Text.{is_filled}
 use Rattle.rendering_taxonomy.specs.Formats.{changed}
 use Rattle.rendering_taxonomy.specs.Variables.{is_variable}
 use Rattle.rendering_tree.specs.Metas as metas
@@ -23,10 +25,11 @@ use Rattle.rendering_style.specs.Nodes as nodes
 use Rattle.rendering_names.specs.Names.{pluralizes, label_manner}
 use Rattle.rendering_context.specs.Contexts.{Context}
 use Rattle.rendering_leaves.specs.NodeSettings.{SpecialForm, suffix_only, NodeSetting, State, append, with_printed}
+use Rattle.rendering_leaves.specs.Links.{before_link, linked_answer, look_before}
 use Rattle.rendering_leaves.specs.Quoted.{are_inner, requoted}
 pub use Rattle.rendering_leaves.specs.Quoted.{close_term, open_term}
 use Rattle.rendering_leaves.specs.Words.{number_in}
-use Rattle.rendering_context.specs.Answering.{Answer, no_answer, pieces, address, count, ranges, own, answer_to, text_answer_to, dashed_if, asked_for, date_answer, is_plural_variable}
+use Rattle.rendering_context.specs.Answering.{Answer, no_answer, pieces, address, count, ranges, own, answer_to, text_answer_to, asked_for, date_answer, is_plural_variable}
 use Rattle.rendering_taxonomy.specs.declared.date.DatePartForm.{DatePartForm}
 use Rattle.rendering_taxonomy.specs.declared.date.DatePartForm.TheVariants as parts
 use Rattle.rendering_taxonomy.specs.declared.date.LongShortForm.TheVariants as lengths
@@ -126,19 +129,30 @@ own_year_suffix c = if c.has_suffix_node then [] else c.year_suffix
 abbrev pub label_suffix : Context → Manner → Variable → List Piece
 label_suffix c m v = if is_label_variable v then normal m (own_year_suffix c) ∷ [] else []
 
--- what a text node prints, without its quotes
-abbrev pub source_pieces : Context → Bool → List Variable → Manner → TextSource → List Piece
-source_pieces c inner suppressed m (of_variable v form) = identified m v (answer_pieces c m number_forms.Numeric (requoted c inner (text_answer_to c suppressed form v))) ++ label_suffix c m v
-source_pieces c inner suppressed m (of_term name form plural) = normal m (term_text c.locales name form plural) ∷ []
-source_pieces c inner suppressed m (of_value cs) = normal m cs ∷ []
+-- what is answered to a text node of a variable
+abbrev pub source_answer : Context → Bool → List Variable → TextSource → Answer
+source_answer c inner suppressed (of_variable v form) = requoted c inner (text_answer_to c suppressed form v)
+source_answer c inner suppressed source = no_answer
+
+-- what a text node prints of that, without its quotes
+abbrev pub source_pieces : Context → Manner → TextSource → Answer → List Piece
+source_pieces c m (of_variable v form) answer = identified m v (answer_pieces c m number_forms.Numeric answer) ++ label_suffix c m v
+source_pieces c m (of_term name form plural) _ = normal m (term_text c.locales name form plural) ∷ []
+source_pieces c m (of_value cs) _ = normal m cs ∷ []
+
+-- a text node with an answer, in its element, where so much of its prefix stands before a link
+abbrev pub text_pieces_by : Context → NodeSetting → TextSource → TextLook → Option (List ℕ) → Answer → List Piece
+text_pieces_by c s source look before answer =
+    framed (frame s.manner (Some metas.Text) (look_before before look.look))
+    (quote_before c (text_manner s.manner look) look.quotes s.inside_quotes
+    ++ source_pieces c (text_manner s.manner look) source (linked_answer before answer)
+    ++ quote_after c (text_manner s.manner look) look.quotes s.inside_quotes)
 
 -- what a text node prints
 abbrev pub text_pieces : Context → NodeSetting → List Variable → TextSource → TextLook → List Piece
 text_pieces c s suppressed source look =
-    framed (frame s.manner (Some metas.Text) look.look)
-    (quote_before c (text_manner s.manner look) look.quotes s.inside_quotes
-    ++ source_pieces c (are_inner look.quotes s.inside_quotes) suppressed (text_manner s.manner look) source
-    ++ quote_after c (text_manner s.manner look) look.quotes s.inside_quotes)
+    let answer = source_answer c (are_inner look.quotes s.inside_quotes) suppressed source in
+    text_pieces_by c s source look (before_link c.is_published look answer) answer
 
 -- what a number node prints
 abbrev pub number_pieces : Context → NodeSetting → List Variable → NumberNode → List Piece
@@ -225,9 +239,29 @@ using c v st =
 abbrev pub after_variable : Context → NodeSetting → Variable → State → State
 after_variable c s v st = using c v (if is_variable v (asked_for c v) then suppressing s v st else st)
 
+-- whether a text is white space alone, and some
+abbrev pub is_blank : List ℕ → Bool
+is_blank cs = is_filled cs && not (list_any (λ c. not (is_whitespace c)) cs)
+
+-- a text of white space alone, with the affixes of its node, in no element: an element would print nothing
+abbrev pub blank_pieces : NodeSetting → TextLook → List ℕ → List Piece
+blank_pieces s look cs =
+    normal (uncased s.manner) look.look.prefix
+    ∷ normal (text_manner s.manner look) cs
+    ∷ normal (uncased s.manner) look.look.suffix
+    ∷ []
+
+-- what a text node of the style's own text prints: in a published style white space alone too
+abbrev pub value_pieces : Context → NodeSetting → TextLook → List ℕ → List Piece
+value_pieces c s look cs =
+    if c.is_published && is_blank cs
+    then blank_pieces s look cs
+    else text_pieces c s [] (of_value cs) look
+
 -- a text node is appended
 abbrev pub append_text_node : Context → NodeSetting → TextSource → TextLook → State → State
 append_text_node c s (of_variable v form) look st = after_variable c s v (append c (text_pieces c s st.suppressed (of_variable v form) look) st)
+append_text_node c s (of_value cs) look st = append c (value_pieces c s look cs) st
 append_text_node c s source look st = append c (text_pieces c s st.suppressed source look) st
 
 -- a node that holds no others is appended

@@ -6,6 +6,7 @@ mod date;
 mod date_shape;
 mod entry_identifiers;
 mod label;
+mod links;
 mod node_frame;
 mod node_setting;
 mod number;

@@ -57,9 +57,9 @@ pub(crate) fn append_before<'a>(
     inside: bool,
     page: &mut Page<'a>,
 ) -> Result<(), AllocError>
-    ensures { (a : Answers)
-        → OnOk result (page.new ≡ append_pieces (quotes_view context.now.quotes.now)
-        (quote_before (context_view a context.now) (manner_view manner) quotes inside) page.old) }
+    ensures { (a : Answers) → OnOk result (page.new ≡ append_pieces
+        (quotes_view context.now.quotes.now) (quote_before (context_view a context.now)
+        (manner_view manner) quotes inside) page.old) }
 {
     if !quotes {
         return Ok(());
@@ -76,9 +76,9 @@ pub(crate) fn append_after<'a>(
     inside: bool,
     page: &mut Page<'a>,
 ) -> Result<(), AllocError>
-    ensures { (a : Answers)
-        → OnOk result (page.new ≡ append_pieces (quotes_view context.now.quotes.now)
-        (quote_after (context_view a context.now) (manner_view manner) quotes inside) page.old) }
+    ensures { (a : Answers) → OnOk result (page.new ≡ append_pieces
+        (quotes_view context.now.quotes.now) (quote_after (context_view a context.now)
+        (manner_view manner) quotes inside) page.old) }
 {
     if !quotes {
         return Ok(());

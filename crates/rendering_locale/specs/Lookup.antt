@@ -87,6 +87,10 @@ ordinals_of ls = unwrap_or (first_answer (λ l. l.ordinals) ls) (record { ending
 abbrev pub punctuates_in_quotes : List Locale → Bool
 punctuates_in_quotes ls = unwrap_or (first_answer (λ l. l.punctuation_in_quote) ls) false
 
+-- whether of the days only the first is an ordinal number, by the first locale that says so or not
+abbrev pub limits_day_ordinals : List Locale → Bool
+limits_day_ordinals ls = unwrap_or (first_answer (λ l. l.limits_day_ordinals) ls) false
+
 -- a quote
 abbrev pub quote_text : List Locale → Term → List ℕ
 quote_text ls name = term_text ls name forms.Long false

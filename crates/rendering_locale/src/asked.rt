@@ -3,13 +3,14 @@
 ghost use Rattle.std.specs.Prelude.{◌≡◌, ◌++◌, map, IfOk, OnOk};
 ghost use Rattle.std.specs.Option.{option_map, option_to_list, unwrap_or};
 ghost use Rattle.laws.specs.Text.{spelled};
-ghost use Rattle.rendering_locale.specs.Lookup.{asked, first_answer, term, term_text, text_of, date_found, punctuates_in_quotes, quote_text, close_quotes};
+ghost use Rattle.rendering_locale.specs.Lookup.{asked, first_answer, term, term_text, text_of, date_found, limits_day_ordinals, punctuates_in_quotes, quote_text, close_quotes};
 ghost use Rattle.rendering_locale.specs.Views.{term_view, localized_date_view, ordinals_view, locale_view, locales_view};
 
 use crate::code::base_of;
 use crate::locale::{Locale, LocalizedDate, LocalizedTerm, Ordinals};
 use crate::looking::{
-    date_found, in_fallback, in_language, ordinals_found, punctuation_found, term_found,
+    date_found, day_limit_found, in_fallback, in_language, ordinals_found, punctuation_found,
+    term_found,
 };
 use rendering_taxonomy::{DateForm, OtherTerm, Term, TermForm};
 use std::alloc::{AllocError, Global};
@@ -98,6 +99,13 @@ impl<'a> AskedLocales<'a> {
         ensures { result ≡ punctuates_in_quotes self.now }
     {
         punctuation_found(&self.locales).unwrap_or(false)
+    }
+
+    /// Whether of the days only the first is an ordinal number: what the first locale says that says anything, else not.
+    pub fn limits_day_ordinals(&self) -> bool
+        ensures { result ≡ limits_day_ordinals self.now }
+    {
+        day_limit_found(&self.locales).unwrap_or(false)
     }
 
     /// The text of a quote.

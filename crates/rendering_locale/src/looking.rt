@@ -148,3 +148,15 @@ pub(crate) fn punctuation_found(locales: &[&Locale]) -> Option<bool>
     }
     None
 }
+
+/// What the first locale says that says whether of the days only the first is an ordinal number.
+pub(crate) fn day_limit_found(locales: &[&Locale]) -> Option<bool>
+    ensures { result ≡ first_answer (λ l. l.limits_day_ordinals) (locales_view locales.now) }
+{
+    for locale in locales {
+        if let Some(limits) = locale.limit_day_ordinals_to_day_1 {
+            return Some(limits);
+        }
+    }
+    None
+}

@@ -1,5 +1,7 @@
 -- Where elements end, and names with people.
 use Rattle.std.proofs.Common.{◌≡◌, true, false, List, [], ◌∷◌, is_some, refl, sym, ap, ◌∙◌, Option, None, Some}
+use Rattle.std.specs.Prelude.{IfOk, Result, Ok, Err}
+use Rattle.std.specs.Option.{unwrap_or}
 use Rattle.std.proofs.lemmas.List.Sums.{fold-append}
 use Rattle.rendering_page.specs.Pages.{Page, Frame, ended}
 use Rattle.rendering_page.specs.Pieces.{Piece, end, append_piece}
@@ -35,6 +37,11 @@ shown_as c s h ps qs people st new same e = e ∙ ap (λ rs. append c (names_pie
 pub own_as : (c : Context) (s : NodeSetting) (h : NamesNode) (ps qs : Properties) (people : List Answered) (st new : State)
     → ps ≡ qs → new ≡ append_names c s h ps people st → new ≡ append_names c s h qs people st
 own_as c s h ps qs people st new same e = e ∙ ap (λ rs. append_names c s h rs people st) same
+
+-- other properties that are the same, of names that may be raised
+pub raised_as : {E : Type 0} (r : Result (Option Properties) E) (own ps qs : Properties) → ps ≡ qs → IfOk r (λ n. unwrap_or n own ≡ ps) → IfOk r (λ n. unwrap_or n own ≡ qs)
+raised_as (Ok n) own ps qs same e = e ∙ same
+raised_as (Err f) own ps qs same e = tt
 
 -- nothing is raised after the first names
 pub disambiguated_some : (c : Context) (names : Option Properties) (own : Properties) → is_some names ≡ true → own ≡ disambiguated c names own

@@ -18,9 +18,10 @@ use Rattle.rendering_context.specs.Contexts.{Context}
 use Rattle.rendering_context.specs.Answering.{Answer, no_answer, pieces, address, count, ranges, own, is_missing, answer_to, text_answer_to, date_answer}
 use Rattle.rendering_context.specs.Choosing.{asks_disambiguate}
 use Rattle.rendering_leaves.specs.NodeSettings.{SpecialForm, whole, author_only, without_author, first_date_only, suffix_only, authors_alone, without_names, NodeSetting, State, noted, append}
-use Rattle.rendering_leaves.specs.Values.{text_manner, number_manner, date_manner, frame, quote_before, quote_after, answer_pieces, identified, label_suffix, source_pieces, text_pieces, label_term, date_inside, date_frame, date_suffix, day_pieces, suppressing, after_variable, append_leaf, is_passed_over}
+use Rattle.rendering_leaves.specs.Values.{text_manner, number_manner, date_manner, frame, quote_before, quote_after, answer_pieces, identified, label_suffix, source_answer, source_pieces, text_pieces, label_term, date_inside, date_frame, date_suffix, day_pieces, suppressing, after_variable, append_leaf, is_passed_over, is_blank, blank_pieces}
 use Rattle.rendering_nodes.specs.Admission.{Survey, Stage, nothing, both, containing, words_survey, variable_survey, allows_variable, allows_date, has_people, in_substitute_of, is_shut_out, names_survey, leaf_survey, group_survey, survey, surveys, branch_survey}
 use Rattle.rendering_nodes.specs.Content.{substituted_names, taken, disambiguated, with_people_printed, append_names, names_in, macro_frame, group_frame, stage, entered, left, inside_macro, inside_group, inside_names, delimited, delimited_frame, delimits_printed, tried, accepted, people_of, names_or_substitute, content, contents, chosen, first_substitute}
+use Rattle.rendering_leaves.specs.Links.{before_link, linked_answer, look_before}
 use Rattle.rendering_leaves.specs.Quoted.{are_inner, requoted}
 use Rattle.rendering_nodes.specs.Named.{joined_named, variable_named, named_in_source, named_in_leaf, named_in_tests, named_in, named, named_in_branches, always_named, people_named}
 use Rattle.rendering_nodes.specs.Laws.{with_answers, AlikeEntriesPrintAlike}
@@ -122,32 +123,40 @@ requoted_same a b c inner (count n) = refl
 requoted_same a b c inner (ranges ps) = refl
 requoted_same a b c inner own = refl
 
-text_answered_same : (a b : Answers) (c : Context) (inner : Bool) (vs : List Variable) (m : Manner) (numbers : NumberForm) (form : LongShortForm) (v : Variable) → LabelsAlike a b → AlikeIn c.is_published (variable_named v) a b
-    → answer_pieces (with_answers a c) m numbers (requoted (with_answers a c) inner (text_answer_to (with_answers a c) vs form v)) ≡ answer_pieces (with_answers b c) m numbers (requoted (with_answers b c) inner (text_answer_to (with_answers b c) vs form v))
-text_answered_same a b c inner vs m numbers form v l h =
-    ap (λ (x : Answer). answer_pieces (with_answers a c) m numbers (requoted (with_answers a c) inner x)) (text_printed_same a b c vs form v l (one_alike v a b h))
-    ∙ (ap (answer_pieces (with_answers a c) m numbers) (requoted_same a b c inner (text_answer_to (with_answers b c) vs form v))
-    ∙ pieces_same a b c m numbers (requoted (with_answers b c) inner (text_answer_to (with_answers b c) vs form v)))
+text_answered_same : (a b : Answers) (c : Context) (inner : Bool) (vs : List Variable) (source : TextSource) → LabelsAlike a b → AlikeIn c.is_published (named_in_source source) a b
+    → source_answer (with_answers a c) inner vs source ≡ source_answer (with_answers b c) inner vs source
+text_answered_same a b c inner vs (of_variable v form) l h =
+    ap (requoted (with_answers a c) inner) (text_printed_same a b c vs form v l (one_alike v a b h))
+    ∙ requoted_same a b c inner (text_answer_to (with_answers b c) vs form v)
+text_answered_same a b c inner vs (of_term name form plural) l h = refl
+text_answered_same a b c inner vs (of_value cs) l h = refl
 
-source_same : (a b : Answers) (c : Context) (inner : Bool) (vs : List Variable) (m : Manner) (source : TextSource) → LabelsAlike a b → AlikeIn c.is_published (named_in_source source) a b
-    → source_pieces (with_answers a c) inner vs m source ≡ source_pieces (with_answers b c) inner vs m source
-source_same a b c inner vs m (of_variable v form) l h = ap (λ ps. identified m v ps ++ label_suffix c m v) (text_answered_same a b c inner vs m number_forms.Numeric form v l h)
-source_same a b c inner vs m (of_term name form plural) l h = refl
-source_same a b c inner vs m (of_value cs) l h = refl
+source_same : (a b : Answers) (c : Context) (m : Manner) (source : TextSource) (answer : Answer) → source_pieces (with_answers a c) m source answer ≡ source_pieces (with_answers b c) m source answer
+source_same a b c m (of_variable v form) answer = ap (λ ps. identified m v ps ++ label_suffix c m v) (pieces_same a b c m number_forms.Numeric answer)
+source_same a b c m (of_term name form plural) answer = refl
+source_same a b c m (of_value cs) answer = refl
 
 text_same : (a b : Answers) (c : Context) (s : NodeSetting) (vs : List Variable) (source : TextSource) (look : TextLook) → LabelsAlike a b → AlikeIn c.is_published (named_in_source source) a b
     → text_pieces (with_answers a c) s vs source look ≡ text_pieces (with_answers b c) s vs source look
 text_same a b c s vs source look l h =
     let m = text_manner s.manner look in
     let before = quote_before_same a b c m look.quotes s.inside_quotes in
-    let inside = source_same a b c (are_inner look.quotes s.inside_quotes) vs m source l h in
+    let inner = are_inner look.quotes s.inside_quotes in
+    let one = source_answer (with_answers a c) inner vs source in
+    let other = source_answer (with_answers b c) inner vs source in
+    let answer : one ≡ other = text_answered_same a b c inner vs source l h in
+    let inside : source_pieces (with_answers a c) m source (linked_answer (before_link c.is_published look one) one)
+    ≡ source_pieces (with_answers b c) m source (linked_answer (before_link c.is_published look other) other) =
+    (λ i. source_pieces (with_answers a c) m source (linked_answer (before_link c.is_published look (answer i)) (answer i)))
+    ∙ source_same a b c m source (linked_answer (before_link c.is_published look other) other) in
     let after = quote_after_same a b c m look.quotes s.inside_quotes in
-    λ i. framed (frame s.manner (Some metas.Text) look.look) (before i ++ inside i ++ after i)
+    λ i. framed (frame s.manner (Some metas.Text) (look_before (before_link c.is_published look (answer i)) look.look)) (before i ++ inside i ++ after i)
 
 leaf_same : (a b : Answers) (c : Context) (s : NodeSetting) (x : Leaf) (st : State) → LabelsAlike a b → AlikeIn c.is_published (named_in_leaf x) a b → append_leaf (with_answers a c) s x st ≡ append_leaf (with_answers b c) s x st
 leaf_same a b c s (nodes.text (of_variable v form) look) st l h = ap (λ ps. after_variable c s v (append c ps st)) (text_same a b c s st.suppressed (of_variable v form) look l h)
 leaf_same a b c s (nodes.text (of_term name form plural) look) st l h = ap (λ ps. append c ps st) (text_same a b c s st.suppressed (of_term name form plural) look l h)
-leaf_same a b c s (nodes.text (of_value cs) look) st l h = ap (λ ps. append c ps st) (text_same a b c s st.suppressed (of_value cs) look l h)
+leaf_same a b c s (nodes.text (of_value cs) look) st l h =
+    ap (λ ps. append c (if c.is_published && is_blank cs then blank_pieces s look cs else ps) st) (text_same a b c s [] (of_value cs) look l h)
 leaf_same a b c s (nodes.number n) st l h =
     let m = number_manner s.manner n in
     ap (λ ps. after_variable c s n.variable (append c (framed (frame s.manner (Some metas.Number) n.look) (identified m n.variable ps)) st))

@@ -30,10 +30,11 @@ use Rattle.rendering_names.specs.Persons.{person_text}
 use Rattle.rendering_names.specs.Roles as roles
 use Rattle.rendering_people.specs.Properties.{VariableProperties, Properties, all_shown}
 use Rattle.rendering_context.specs.Contexts.{Context}
-use Rattle.rendering_context.specs.Answering.{Answer, no_answer, pieces, address, count, ranges, own, answer_to, text_answer_to, asked_for, date_answer, is_plural_variable}
+use Rattle.rendering_context.specs.Answering.{Answer, no_answer, pieces, address, count, ranges, own, answer_to, asked_for, date_answer, is_plural_variable}
 use Rattle.rendering_leaves.specs.NodeSettings.{with_variable, SpecialForm, suffix_only, NodeSetting, State, append, with_printed, standing}
-use Rattle.rendering_leaves.specs.Values.{text_manner, number_manner, date_manner, frame, open_term, close_term, quote_before, quote_after, meaning, answer_pieces, identified, is_label_variable, is_number_variable, label_suffix, label_term, own_year_suffix, source_pieces, text_pieces, number_pieces, label_pieces, date_inside, date_frame, date_suffix, day_pieces, shape_of, suppressing, using, after_variable, append_leaf, is_passed_over}
-use Rattle.rendering_leaves.specs.Quoted.{are_inner, requoted}
+use Rattle.rendering_leaves.specs.Values.{text_manner, number_manner, date_manner, frame, open_term, close_term, quote_before, quote_after, meaning, answer_pieces, identified, is_label_variable, is_number_variable, label_suffix, label_term, own_year_suffix, source_answer, source_pieces, text_pieces, is_blank, blank_pieces, value_pieces, number_pieces, label_pieces, date_inside, date_frame, date_suffix, day_pieces, shape_of, suppressing, using, after_variable, append_leaf, is_passed_over}
+use Rattle.rendering_leaves.specs.Links.{before_link, linked_answer, look_before}
+use Rattle.rendering_leaves.specs.Quoted.{are_inner}
 use Rattle.rendering_taxonomy.specs.Variables.{is_variable}
 use Rattle.rendering_taxonomy.specs.declared.date.LongShortForm.TheVariants as lengths
 use Rattle.rendering_taxonomy.specs.declared.name.DisambiguatedNameForm.{DisambiguatedNameForm}
@@ -78,25 +79,35 @@ ends_identified m v ps h = h
 ends_label_suffix : (c : Context) (m : Manner) (v : Variable) → EndAll (label_suffix c m v)
 ends_label_suffix c m v = ends_either (is_label_variable v) (normal m (own_year_suffix c) ∷ []) [] (ends_normal m (own_year_suffix c)) ends_none
 
-ends_source : (c : Context) (inner : Bool) (vs : List Variable) (m : Manner) (source : TextSource) → EndAll (source_pieces c inner vs m source)
-ends_source c inner vs m (of_variable v form) =
-    let printed = requoted c inner (text_answer_to c vs form v) in
+ends_source : (c : Context) (m : Manner) (source : TextSource) (printed : Answer) → EndAll (source_pieces c m source printed)
+ends_source c m (of_variable v form) printed =
     let answer = answer_pieces c m number_forms.Numeric printed in
     ends_both (identified m v answer) (label_suffix c m v)
     (ends_identified m v answer (ends_answer c m number_forms.Numeric printed)) (ends_label_suffix c m v)
-ends_source c inner vs m (of_term name form plural) = ends_normal m (term_text c.locales name form plural)
-ends_source c inner vs m (of_value cs) = ends_normal m cs
+ends_source c m (of_term name form plural) printed = ends_normal m (term_text c.locales name form plural)
+ends_source c m (of_value cs) printed = ends_normal m cs
 
 ends_text : (c : Context) (s : NodeSetting) (vs : List Variable) (source : TextSource) (look : TextLook) → EndAll (text_pieces c s vs source look)
 ends_text c s vs source look =
     let m = text_manner s.manner look in
     let before = quote_before c m look.quotes s.inside_quotes in
-    let inner = are_inner look.quotes s.inside_quotes in
-    let inside = source_pieces c inner vs m source in
+    let answer = source_answer c (are_inner look.quotes s.inside_quotes) vs source in
+    let held = before_link c.is_published look answer in
+    let inside = source_pieces c m source (linked_answer held answer) in
     let after = quote_after c m look.quotes s.inside_quotes in
-    let begins = ends_both before inside (ends_quote_before c m look.quotes s.inside_quotes) (ends_source c inner vs m source) in
-    ends_framed (frame s.manner (Some metas.Text) look.look) ((before ++ inside) ++ after)
+    let begins = ends_both before inside (ends_quote_before c m look.quotes s.inside_quotes) (ends_source c m source (linked_answer held answer)) in
+    ends_framed (frame s.manner (Some metas.Text) (look_before held look.look)) ((before ++ inside) ++ after)
     (ends_both (before ++ inside) after begins (ends_quote_after c m look.quotes s.inside_quotes))
+
+-- a text of white space alone is in no element
+ends_blank : (s : NodeSetting) (look : TextLook) (cs : List ℕ) → EndAll (blank_pieces s look cs)
+ends_blank s look cs =
+    ends_more _ _ (ends_normal (uncased s.manner) look.look.prefix)
+    (ends_more _ _ (ends_normal (text_manner s.manner look) cs) (ends_normal (uncased s.manner) look.look.suffix))
+
+ends_value : (c : Context) (s : NodeSetting) (look : TextLook) (cs : List ℕ) → EndAll (value_pieces c s look cs)
+ends_value c s look cs =
+    ends_either (c.is_published && is_blank cs) (blank_pieces s look cs) (text_pieces c s [] (of_value cs) look) (ends_blank s look cs) (ends_text c s [] (of_value cs) look)
 
 ends_number : (c : Context) (s : NodeSetting) (vs : List Variable) (n : NumberNode) → EndAll (number_pieces c s vs n)
 ends_number c s vs n =
@@ -329,7 +340,7 @@ keeps_leaf c s (nodes.text (of_variable v form) look) st =
     keeps_after c s v (text_pieces c s st.suppressed (of_variable v form) look) st (ends_text c s st.suppressed (of_variable v form) look)
 keeps_leaf c s (nodes.text (of_term name form plural) look) st =
     keeps_append c (text_pieces c s st.suppressed (of_term name form plural) look) st (ends_text c s st.suppressed (of_term name form plural) look)
-keeps_leaf c s (nodes.text (of_value cs) look) st = keeps_append c (text_pieces c s st.suppressed (of_value cs) look) st (ends_text c s st.suppressed (of_value cs) look)
+keeps_leaf c s (nodes.text (of_value cs) look) st = keeps_append c (value_pieces c s look cs) st (ends_value c s look cs)
 keeps_leaf c s (nodes.number n) st = keeps_after c s n.variable (number_pieces c s st.suppressed n) st (ends_number c s st.suppressed n)
 keeps_leaf c s (nodes.label v look) st = keeps_append c (label_pieces c s v look) st (ends_label c s v look)
 keeps_leaf c s (nodes.date d) st =

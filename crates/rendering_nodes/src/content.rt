@@ -11,11 +11,11 @@ ghost use Rattle.rendering_nodes.specs.Admission.{substitute_form};
 ghost use Rattle.rendering_nodes.specs.Content.{accepted, content, contents, delimited_node, first_substitute, tried};
 ghost use Rattle.rendering_nodes.specs.Findings.{AreFound, AreFoundInside, IsFound, IsKnown, IsSurveyed};
 ghost use Rattle.rendering_nodes.specs.Turns.{is_next, append_next, in_delimited, names_appended, settled, append_substitute, is_substitute, substituted};
-ghost use Rattle.rendering_nodes.specs.Views.{macros_of, walk_context};
+ghost use Rattle.rendering_nodes.specs.Views.{macros_of, opened_list, opened_node, walk_context};
 ghost use Rattle.rendering_page.specs.Pages.{prints};
 ghost use Rattle.rendering_style.specs.Nodes as nodes;
 ghost use Rattle.rendering_style.specs.Opening.{each_branch, each_node, macro_named, open_node, part};
-ghost use Rattle.rendering_style.specs.Views.{branch_view, branches_of, group_node_view, node_view, nodes_view, text_node_view, text_look_view};
+ghost use Rattle.rendering_style.specs.Views.{branch_view, branches_of, group_node_view, nodes_view, text_node_view, text_look_view};
 
 use crate::elements::{delimited_frame, delimits_printed};
 use crate::finding::{Findings, Known, NodeFinding, Surveyed};
@@ -60,11 +60,10 @@ impl<'a> Walk<'_, 'a> {
         state: &mut State<'a>,
     ) -> Result<(), AllocError>
         requires { AreFound (walk_context (E.answers entry.now) self.now)
-            (setting_view setting.now).form findings
-            (each_node (open_node levels (macros_of self.now)) (nodes_view nodes.now)) }
+            (setting_view setting.now).form findings (opened_list levels self.now nodes.now) }
         ensures { OnOk result (state.new
             ≡ contents (walk_context (E.answers entry.now) self.now) (setting_view setting.now) true
-            (each_node (open_node levels (macros_of self.now)) (nodes_view nodes.now)) state.old) }
+            (opened_list levels self.now nodes.now) state.old) }
     {
         let mut is_first = true;
         let mut rest = findings;
@@ -92,14 +91,13 @@ impl<'a> Walk<'_, 'a> {
         state: &mut State<'a>,
     ) -> Result<bool, AllocError>
         requires { IfSome finding (λ n. IsFound (walk_context (E.answers entry.now) self.now)
-            (setting_view setting.now) state.old n
-            (open_node levels (macros_of self.now) (node_view node.now))) }
+            (setting_view setting.now) state.old n (opened_node levels self.now node.now)) }
         ensures admitted { IfOk result (λ b. b
             ≡ is_next (walk_context (E.answers entry.now) self.now) (setting_view setting.now)
-            (open_node levels (macros_of self.now) (node_view node.now)) state.old) }
+            (opened_node levels self.now node.now) state.old) }
         ensures state { OnOk result (state.new
             ≡ append_next (walk_context (E.answers entry.now) self.now) (setting_view setting.now)
-            is_first (open_node levels (macros_of self.now) (node_view node.now)) state.old) }
+            is_first (opened_node levels self.now node.now) state.old) }
     {
         let known = self.survey_unless_known(entry, setting, levels, node, finding, state)?;
         let finding = known.finding();
@@ -119,13 +117,13 @@ impl<'a> Walk<'_, 'a> {
         state: &mut State<'a>,
     ) -> Result<bool, AllocError>
         requires { IsFound (walk_context (E.answers entry.now) self.now) (setting_view setting.now)
-            state.old finding (open_node levels (macros_of self.now) (node_view node.now)) }
+            state.old finding (opened_node levels self.now node.now) }
         ensures admitted { IfOk result (λ b. b
             ≡ is_next (walk_context (E.answers entry.now) self.now) (setting_view setting.now)
-            (open_node levels (macros_of self.now) (node_view node.now)) state.old) }
+            (opened_node levels self.now node.now) state.old) }
         ensures state { OnOk result (state.new
             ≡ append_next (walk_context (E.answers entry.now) self.now) (setting_view setting.now)
-            is_first (open_node levels (macros_of self.now) (node_view node.now)) state.old) }
+            is_first (opened_node levels self.now node.now) state.old) }
     {
         if !finding.admits(state) {
             return Ok(false);
@@ -156,13 +154,12 @@ impl<'a> Walk<'_, 'a> {
         state: &mut State<'a>,
     ) -> Result<(), AllocError>
         requires { AreFoundInside (walk_context (E.answers entry.now) self.now)
-            (setting_view setting.now).form findings
-            (open_node levels (macros_of self.now) (node_view node.now)) }
+            (setting_view setting.now).form findings (opened_node levels self.now node.now) }
         ensures { OnOk result (state.new
             ≡ delimited_node (walk_context (E.answers entry.now) self.now)
             (setting_view setting.now) is_first
             (content (walk_context (E.answers entry.now) self.now) None (setting_view setting.now)
-            (open_node levels (macros_of self.now) (node_view node.now))) state.old) }
+            (opened_node levels self.now node.now)) state.old) }
     {
         if delimits_printed(setting, state) {
             return self.push_delimited(entry, setting, levels, node, findings, state);
@@ -183,11 +180,10 @@ impl<'a> Walk<'_, 'a> {
         state: &mut State<'a>,
     ) -> Result<(), AllocError>
         requires { AreFoundInside (walk_context (E.answers entry.now) self.now)
-            (setting_view setting.now).form findings
-            (open_node levels (macros_of self.now) (node_view node.now)) }
+            (setting_view setting.now).form findings (opened_node levels self.now node.now) }
         ensures { OnOk result (state.new
             ≡ in_delimited (walk_context (E.answers entry.now) self.now) (setting_view setting.now)
-            (open_node levels (macros_of self.now) (node_view node.now)) state.old) }
+            (opened_node levels self.now node.now) state.old) }
     {
         let frame = delimited_frame(setting, state);
         self.begin_delimited(&frame, state)?;
@@ -206,11 +202,9 @@ impl<'a> Walk<'_, 'a> {
         state: &State<'a>,
     ) -> Result<Known<'t>, AllocError>
         requires { IfSome finding (λ n. IsFound (walk_context (E.answers entry.now) self.now)
-            (setting_view setting.now) state.now n
-            (open_node levels (macros_of self.now) (node_view node.now))) }
+            (setting_view setting.now) state.now n (opened_node levels self.now node.now)) }
         ensures { IfOk result (λ k. IsKnown (walk_context (E.answers entry.now) self.now)
-            (setting_view setting.now) state.now k
-            (open_node levels (macros_of self.now) (node_view node.now))) }
+            (setting_view setting.now) state.now k (opened_node levels self.now node.now)) }
     {
         match finding {
             Some(finding) => Ok(Known::Before(finding)),
@@ -231,8 +225,7 @@ impl<'a> Walk<'_, 'a> {
         state: &State<'a>,
     ) -> Result<Surveyed, AllocError>
         ensures { IfOk result (λ n. IsSurveyed (walk_context (E.answers entry.now) self.now)
-            (setting_view setting.now) state.now n
-            (open_node levels (macros_of self.now) (node_view node.now))) }
+            (setting_view setting.now) state.now n (opened_node levels self.now node.now)) }
     {
         let mut inside = Vec::new(self.context.alloc);
         let stage = self.stage(setting.form, state);
@@ -259,11 +252,10 @@ impl<'a> Walk<'_, 'a> {
         state: &mut State<'a>,
     ) -> Result<(), AllocError>
         requires { AreFoundInside (walk_context (E.answers entry.now) self.now)
-            (setting_view setting.now).form findings
-            (open_node levels (macros_of self.now) (node_view node.now)) }
+            (setting_view setting.now).form findings (opened_node levels self.now node.now) }
         ensures { OnOk result (state.new ≡ content (walk_context (E.answers entry.now) self.now)
             (option_map (λ n. names_parts_view n.now) outer.entry) (setting_view setting.now)
-            (open_node levels (macros_of self.now) (node_view node.now)) state.old) }
+            (opened_node levels self.now node.now) state.old) }
     {
         if levels == 0 {
             return Ok(());
@@ -366,12 +358,11 @@ impl<'a> Walk<'_, 'a> {
         state: &mut State<'a>,
     ) -> Result<(), AllocError>
         requires { AreFound (walk_context (E.answers entry.now) self.now)
-            (setting_view setting.now).form findings
-            (each_node (open_node levels (macros_of self.now)) (nodes_view children.now)) }
+            (setting_view setting.now).form findings (opened_list levels self.now children.now) }
         ensures { (outer : Option nodes.NamesNode)
             → OnOk result (state.new ≡ content (walk_context (E.answers entry.now) self.now) outer
-            (setting_view setting.now) (nodes.group (group_node_view group.now) (each_node
-            (open_node levels (macros_of self.now)) (nodes_view children.now))) state.old) }
+            (setting_view setting.now) (nodes.group (group_node_view group.now)
+            (opened_list levels self.now children.now)) state.old) }
     {
         self.begin_group(setting, group, state)?;
         let inside = inside_group(setting, group);
@@ -420,13 +411,12 @@ impl<'a> Walk<'_, 'a> {
     ) -> Result<(), AllocError>
         requires { AreFound (walk_context (E.answers entry.now) self.now)
             (substitute_form (setting_view setting.now).form (names_parts_view parts.now).variables
-            (each_node (open_node levels (macros_of self.now)) (nodes_view substitute.now)))
-            findings
-            (each_node (open_node levels (macros_of self.now)) (nodes_view substitute.now)) }
+            (opened_list levels self.now substitute.now))
+            findings (opened_list levels self.now substitute.now) }
         ensures { OnOk result (state.new
             ≡ names_appended (walk_context (E.answers entry.now) self.now)
-            (setting_view setting.now) (names_parts_view parts.now) (each_node
-            (open_node levels (macros_of self.now)) (nodes_view substitute.now)) state.old) }
+            (setting_view setting.now) (names_parts_view parts.now)
+            (opened_list levels self.now substitute.now) state.old) }
     {
         let people = self
             .context
@@ -452,12 +442,11 @@ impl<'a> Walk<'_, 'a> {
     ) -> Result<(), AllocError>
         requires { AreFound (walk_context (E.answers entry.now) self.now)
             (substitute_form (setting_view setting.now).form (names_parts_view names.now).variables
-            (each_node (open_node levels (macros_of self.now)) (nodes_view substitute.now)))
-            findings
-            (each_node (open_node levels (macros_of self.now)) (nodes_view substitute.now)) }
+            (opened_list levels self.now substitute.now))
+            findings (opened_list levels self.now substitute.now) }
         ensures { OnOk result (state.new ≡ substituted (walk_context (E.answers entry.now) self.now)
-            (setting_view setting.now) (names_parts_view names.now) (each_node
-            (open_node levels (macros_of self.now)) (nodes_view substitute.now)) state.old) }
+            (setting_view setting.now) (names_parts_view names.now)
+            (opened_list levels self.now substitute.now) state.old) }
     {
         self.begin_names(setting, names, state)?;
         let form = self.substitute_form(setting.form, levels, names.variables, substitute);
@@ -466,30 +455,29 @@ impl<'a> Walk<'_, 'a> {
         self.end_names(setting, names, state)
     }
 
-    /// Prints the first node that prints something.
+    /// Prints the first node that prints something. `outer` are the names whose substitute it stands in directly.
     #[cycle(contents)]
     fn push_first<E: EntryLike>(
         &self,
         entry: &'a E,
         setting: &NodeSetting<'a>,
         levels: usize,
-        names: &NamesParts<'a>,
+        outer: &NamesParts<'a>,
         substitute: &'a [Node],
         findings: Findings<'_>,
         state: &mut State<'a>,
     ) -> Result<(), AllocError>
         requires { AreFound (walk_context (E.answers entry.now) self.now)
-            (setting_view setting.now).form findings
-            (each_node (open_node levels (macros_of self.now)) (nodes_view substitute.now)) }
+            (setting_view setting.now).form findings (opened_list levels self.now substitute.now) }
         ensures { OnOk result (state.new
             ≡ first_substitute (walk_context (E.answers entry.now) self.now)
-            (names_parts_view names.now) (setting_view setting.now) (each_node
-            (open_node levels (macros_of self.now)) (nodes_view substitute.now)) state.old) }
+            (names_parts_view outer.now) (setting_view setting.now)
+            (opened_list levels self.now substitute.now) state.old) }
     {
         let mut rest = findings;
         for node in substitute {
             let finding = rest.take_first(setting.form, state);
-            if self.push_substitute_node(entry, setting, levels, names, node, finding, state)? {
+            if self.push_substitute_node(entry, setting, levels, outer, node, finding, state)? {
                 return Ok(());
             }
         }
@@ -504,26 +492,23 @@ impl<'a> Walk<'_, 'a> {
         entry: &'a E,
         setting: &NodeSetting<'a>,
         levels: usize,
-        names: &NamesParts<'a>,
+        outer: &NamesParts<'a>,
         node: &'a Node,
         finding: Option<NodeFinding<'_>>,
         state: &mut State<'a>,
     ) -> Result<bool, AllocError>
         requires { IfSome finding (λ n. IsFound (walk_context (E.answers entry.now) self.now)
-            (setting_view setting.now) state.old n
-            (open_node levels (macros_of self.now) (node_view node.now))) }
-        ensures printed { IfOk result (λ b. b
-            ≡ is_substitute (walk_context (E.answers entry.now) self.now)
-            (names_parts_view names.now) (setting_view setting.now)
-            (open_node levels (macros_of self.now) (node_view node.now)) state.old) }
-        ensures state { OnOk result (state.new
-            ≡ append_substitute (walk_context (E.answers entry.now) self.now)
-            (names_parts_view names.now) (setting_view setting.now)
-            (open_node levels (macros_of self.now) (node_view node.now)) state.old) }
+            (setting_view setting.now) state.old n (opened_node levels self.now node.now)) }
+        ensures printed { IfOk result (λ b. b ≡ is_substitute
+            (walk_context (E.answers entry.now) self.now) (names_parts_view outer.now)
+            (setting_view setting.now) (opened_node levels self.now node.now) state.old) }
+        ensures state { OnOk result (state.new ≡ append_substitute
+            (walk_context (E.answers entry.now) self.now) (names_parts_view outer.now)
+            (setting_view setting.now) (opened_node levels self.now node.now) state.old) }
     {
         let known = self.survey_unless_known(entry, setting, levels, node, finding, state)?;
         let finding = known.finding();
-        self.push_tried(entry, setting, levels, names, node, finding, state)
+        self.push_tried(entry, setting, levels, outer, node, finding, state)
     }
 
     /// Prints a node that was surveyed, if it prints something, and returns whether it does.
@@ -533,26 +518,24 @@ impl<'a> Walk<'_, 'a> {
         entry: &'a E,
         setting: &NodeSetting<'a>,
         levels: usize,
-        names: &NamesParts<'a>,
+        outer: &NamesParts<'a>,
         node: &'a Node,
         finding: NodeFinding<'_>,
         state: &mut State<'a>,
     ) -> Result<bool, AllocError>
         requires { IsFound (walk_context (E.answers entry.now) self.now) (setting_view setting.now)
-            state.old finding (open_node levels (macros_of self.now) (node_view node.now)) }
-        ensures printed { IfOk result (λ b. b
-            ≡ is_substitute (walk_context (E.answers entry.now) self.now)
-            (names_parts_view names.now) (setting_view setting.now)
-            (open_node levels (macros_of self.now) (node_view node.now)) state.old) }
-        ensures state { OnOk result (state.new
-            ≡ append_substitute (walk_context (E.answers entry.now) self.now)
-            (names_parts_view names.now) (setting_view setting.now)
-            (open_node levels (macros_of self.now) (node_view node.now)) state.old) }
+            state.old finding (opened_node levels self.now node.now) }
+        ensures printed { IfOk result (λ b. b ≡ is_substitute
+            (walk_context (E.answers entry.now) self.now) (names_parts_view outer.now)
+            (setting_view setting.now) (opened_node levels self.now node.now) state.old) }
+        ensures state { OnOk result (state.new ≡ append_substitute
+            (walk_context (E.answers entry.now) self.now) (names_parts_view outer.now)
+            (setting_view setting.now) (opened_node levels self.now node.now) state.old) }
     {
         if !finding.admits(state) {
             return Ok(false);
         }
-        let done = self.tried(entry, setting, levels, names, node, finding.inside, state)?;
+        let done = self.tried(entry, setting, levels, outer, node, finding.inside, state)?;
         self.accept(setting, done, state)
     }
 
@@ -563,17 +546,16 @@ impl<'a> Walk<'_, 'a> {
         entry: &'a E,
         setting: &NodeSetting<'a>,
         levels: usize,
-        names: &NamesParts<'a>,
+        outer: &NamesParts<'a>,
         node: &'a Node,
         findings: Findings<'_>,
         state: &State<'a>,
     ) -> Result<State<'a>, AllocError>
         requires { AreFoundInside (walk_context (E.answers entry.now) self.now)
-            (setting_view setting.now).form findings
-            (open_node levels (macros_of self.now) (node_view node.now)) }
+            (setting_view setting.now).form findings (opened_node levels self.now node.now) }
         ensures { IfOk result (λ done. done ≡ content (walk_context (E.answers entry.now) self.now)
-            (Some (names_parts_view names.now)) (setting_view setting.now)
-            (open_node levels (macros_of self.now) (node_view node.now)) (tried
+            (Some (names_parts_view outer.now)) (setting_view setting.now)
+            (opened_node levels self.now node.now) (tried
             (walk_context (E.answers entry.now) self.now) (setting_view setting.now) state.now)) }
     {
         let mut done = state.copied()?;
@@ -582,7 +564,7 @@ impl<'a> Walk<'_, 'a> {
             entry,
             setting,
             levels,
-            Some(names),
+            Some(outer),
             node,
             findings,
             &mut done,

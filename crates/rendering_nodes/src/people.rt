@@ -1,6 +1,6 @@
 //! Names with people.
 
-ghost use Rattle.std.specs.Prelude.{◌≡◌, Some, OnOk};
+ghost use Rattle.std.specs.Prelude.{◌≡◌, Some, IfOk, OnOk};
 ghost use Rattle.std.specs.Option.{unwrap_or};
 ghost use Rattle.rendering_context.specs.Cites.{names_of};
 ghost use Rattle.rendering_entries.specs.Answers.{Answers};
@@ -84,84 +84,59 @@ impl<'s, 'a> Walk<'s, 'a> {
             (disambiguated (walk_context a self.now) state.old.names own.now)
             (all_lent_answered_view people.now)) state.old) }
     {
+        let raised = self.raised(own, state)?;
+        let shown = raised_or_own(&raised, own);
+        self.push_shown(setting, names, options, shown, people, state)
+    }
+
+    /// How much is printed of names, where that may be more than their options say, as it may be of the first names; else `None`.
+    fn raised(
+        &self,
+        own: &NameDisambiguationProperties,
+        state: &State<'a>,
+    ) -> Result<Option<NameDisambiguationProperties>, AllocError>
+        ensures { (a : Answers) → IfOk result (λ r. unwrap_or r own.now
+            ≡ disambiguated (walk_context a self.now) state.now.names own.now) }
+    {
         if state.names.is_some() {
-            return self.push_shown(setting, names, options, own, people, state);
+            return Ok(None);
         }
         match self.context.properties.first_names {
-            Some(first) => self.push_named(setting, names, options, own, first, people, state),
-            None => self.push_in_state(setting, names, options, own, people, state),
+            Some(first) => self.first_raised(own, first),
+            None => self.raised_in_state(own),
         }
     }
 
-    /// Prints the first names with people, of which more is printed before cites are compared.
-    fn push_named(
+    /// How much is printed of the first names, where more of them is printed before cites are compared.
+    fn first_raised(
         &self,
-        setting: &NodeSetting<'a>,
-        names: &NamesParts<'a>,
-        options: &ResolvedNameOptions<'a>,
         own: &NameDisambiguationProperties,
         first: &NameDisambiguationProperties,
-        people: &[Answered<'_>],
-        state: &mut State<'a>,
-    ) -> Result<(), AllocError>
-        requires { resolved_options_view options.now
-            ≡ node_options (names_parts_view names.now) (setting_view setting.now).options }
-        ensures { (a : Answers) → OnOk result (state.new ≡ append (walk_context a self.now)
-            (names_pieces (walk_context a self.now).locales (setting_view setting.now).manner
-            (names_parts_view names.now) (setting_view setting.now).options
-            (raised_to (names_of (walk_context a self.now).properties.disambiguation)
-            (raised_to first.now own.now)) (all_lent_answered_view people.now)) state.old) }
+    ) -> Result<Option<NameDisambiguationProperties>, AllocError>
+        ensures { (a : Answers) → IfOk result (λ r. unwrap_or r own.now
+            ≡ raised_to (names_of (walk_context a self.now).properties.disambiguation)
+            (raised_to first.now own.now)) }
     {
         let named = own.raised_to(self.context.alloc, first)?;
-        self.push_in_state(setting, names, options, &named, people, state)
+        let raised = self.raised_in_state(&named)?;
+        Ok(Some(raised.unwrap_or(named)))
     }
 
-    /// Prints the first names with people, of which more may be printed to disambiguate cites.
-    fn push_in_state(
+    /// How much is printed of the first names, where more of them is printed to disambiguate cites; else `None`.
+    fn raised_in_state(
         &self,
-        setting: &NodeSetting<'a>,
-        names: &NamesParts<'a>,
-        options: &ResolvedNameOptions<'a>,
         own: &NameDisambiguationProperties,
-        people: &[Answered<'_>],
-        state: &mut State<'a>,
-    ) -> Result<(), AllocError>
-        requires { resolved_options_view options.now
-            ≡ node_options (names_parts_view names.now) (setting_view setting.now).options }
-        ensures { (a : Answers) → OnOk result (state.new ≡ append (walk_context a self.now)
-            (names_pieces (walk_context a self.now).locales (setting_view setting.now).manner
-            (names_parts_view names.now) (setting_view setting.now).options
-            (raised_to (names_of (walk_context a self.now).properties.disambiguation)
-            own.now) (all_lent_answered_view people.now)) state.old) }
+    ) -> Result<Option<NameDisambiguationProperties>, AllocError>
+        ensures { (a : Answers) → IfOk result (λ r. unwrap_or r own.now
+            ≡ raised_to (names_of (walk_context a self.now).properties.disambiguation) own.now) }
     {
         match &self.context.properties.disambiguation {
             DisambiguateState::NameDisambiguation(others) => {
-                self.push_raised(setting, names, options, own, others, people, state)
+                let raised = own.raised_to(self.context.alloc, others)?;
+                Ok(Some(raised))
             }
-            _ => self.push_shown(setting, names, options, own, people, state),
+            _ => Ok(None),
         }
-    }
-
-    /// Prints names with people, of which more may be printed elsewhere.
-    fn push_raised(
-        &self,
-        setting: &NodeSetting<'a>,
-        names: &NamesParts<'a>,
-        options: &ResolvedNameOptions<'a>,
-        own: &NameDisambiguationProperties,
-        others: &NameDisambiguationProperties,
-        people: &[Answered<'_>],
-        state: &mut State<'a>,
-    ) -> Result<(), AllocError>
-        requires { resolved_options_view options.now
-            ≡ node_options (names_parts_view names.now) (setting_view setting.now).options }
-        ensures { (a : Answers) → OnOk result (state.new ≡ append (walk_context a self.now)
-            (names_pieces (walk_context a self.now).locales (setting_view setting.now).manner
-            (names_parts_view names.now) (setting_view setting.now).options
-            (raised_to others.now own.now) (all_lent_answered_view people.now)) state.old) }
-    {
-        let raised = own.raised_to(self.context.alloc, others)?;
-        self.push_shown(setting, names, options, &raised, people, state)
     }
 
     /// Prints names with people, of which so much is printed.
@@ -188,6 +163,19 @@ impl<'s, 'a> Walk<'s, 'a> {
             manner: setting.manner,
         };
         push_names(&mut state.page, &index, names, options, shown, people)
+    }
+}
+
+/// How much is printed of names, where that may be more than their options say, or else what these say.
+fn raised_or_own<'p>(
+    raised: &'p Option<NameDisambiguationProperties>,
+    own: &'p NameDisambiguationProperties,
+) -> &'p NameDisambiguationProperties
+    ensures { result.now ≡ unwrap_or raised.now own.now }
+{
+    match raised {
+        Some(raised) => raised,
+        None => own,
     }
 }
 

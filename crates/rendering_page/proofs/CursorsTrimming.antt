@@ -12,13 +12,13 @@ use Rattle.rendering_page.specs.Tail.{trailing}
 use Rattle.rendering_page.proofs.ViewsLetters.{reverse_onto}
 
 -- a text without white space at its end, from one without its first character
-abbrev one_more : ℕ → List ℕ → List ℕ
+abbrev pub one_more : ℕ → List ℕ → List ℕ
 one_more c ds = cond (is_whitespace c && length ds == 0) [] (c ∷ ds)
 
-more_blank : (c : ℕ) → is_whitespace c ≡ true → one_more c [] ≡ []
+pub more_blank : (c : ℕ) → is_whitespace c ≡ true → one_more c [] ≡ []
 more_blank c e = ap (λ b. cond (b && true) [] (c ∷ [])) e
 
-more_letter : (c : ℕ) → is_whitespace c ≡ false → one_more c [] ≡ c ∷ []
+pub more_letter : (c : ℕ) → is_whitespace c ≡ false → one_more c [] ≡ c ∷ []
 more_letter c e = ap (λ b. cond (b && true) [] (c ∷ [])) e
 
 never_both : (b : Bool) → (b && false) ≡ false
@@ -28,7 +28,7 @@ never_both false = refl
 not_none : (d : ℕ) (ds : List ℕ) → (length (d ∷ ds) == 0) ≡ false
 not_none d ds = search rules
 
-more_filled : (c d : ℕ) (ds : List ℕ) → one_more c (d ∷ ds) ≡ c ∷ d ∷ ds
+pub more_filled : (c d : ℕ) (ds : List ℕ) → one_more c (d ∷ ds) ≡ c ∷ d ∷ ds
 more_filled c d ds = ap (λ b. cond (is_whitespace c && b) [] (c ∷ d ∷ ds)) (not_none d ds) ∙ ap (λ b. cond b [] (c ∷ d ∷ ds)) (never_both (is_whitespace c))
 
 -- the page after a text of which that remains, and the white space before it

@@ -1,14 +1,15 @@
 -- Texts that are joined, piece by piece.
-use Rattle.std.proofs.Common.{◌≡◌, ℕ, Bool, true, false, true≢false, List, [], ◌∷◌, ◌++◌, refl, sym, ap, ◌∙◌, Some}
+use Rattle.std.proofs.Common.{◌≡◌, ℕ, Bool, true, false, not, ◌&&◌, true≢false, List, [], ◌∷◌, ◌++◌, refl, sym, ap, ◌∙◌, Some}
 use Rattle.std.specs.Prelude.{fold, if◌then◌else◌}
 use Rattle.std.specs.Option.{option_map}
 use Rattle.std.proofs.lemmas.List.Sums.{fold-append}
+use Rattle.laws.specs.Characters.{space}
 use Rattle.laws.specs.Text.{is_filled}
 use Rattle.rendering_taxonomy.specs.declared.formatting.Formatting.{Formatting}
 use Rattle.rendering_tree.specs.Tokens.{Token, letter, link, opening, closing, mark, unmark, with_letters, last_backwards}
 use Rattle.rendering_tree.specs.Views.{meta_view}
-use Rattle.rendering_page.specs.Joints.{Joining, all_joined, ends_by, is_in_place, is_left_out, is_stop, is_taken_inside, joining, joining_token, meeting, nothing_joined, with_bound, with_character, with_first, with_inside, with_quote, with_room, with_token, without_last}
-use Rattle.rendering_page.specs.JoiningPieces.{is_bound, with_bounds, with_text}
+use Rattle.rendering_page.specs.Joints.{Joining, all_joined, ends_by, is_gap, is_in_place, is_left_out, is_replaced, is_stop, is_taken_inside, joining, joining_token, meeting, nothing_joined, with_after_gap, with_bound, with_character, with_first, with_gap, with_inside, with_letter, with_met, with_quote, with_room, with_token, without_gap, without_last}
+use Rattle.rendering_page.specs.JoiningPieces.{is_bound, with_all, with_bounds, with_text}
 use Rattle.rendering_page.specs.Views.{words_view, with_piece, pieces_view}
 use Rattle.rendering_page.specs.declared.piece.Piece.{Piece}
 use Rattle.rendering_page.specs.declared.piece.Piece.TheVariants as pieces
@@ -61,20 +62,70 @@ joining_from inside (p ∷ ps) ts j =
 pub joining_all : (inside : Bool) (ps : List Piece) → fold (λ k p. joining inside (with_piece [] p) k) nothing_joined ps ≡ joining inside (pieces_view ps) nothing_joined
 joining_all inside ps = joining_from inside ps [] nothing_joined
 
--- more of a text
-more_of_text : (f : Formatting) (c : ℕ) (cs : List ℕ) (j : Joining) → with_text f cs (with_token (letter f c) true j) ≡ with_text f (c ∷ cs) j
-more_of_text f c [] j = refl
-more_of_text f c (d ∷ cs) j = refl
+-- a character after all of it is part of a text, and no space after it is the first one after a close quote
+either_text : (b : Bool) (j k : Joining) → j.is_text ≡ true → k.is_text ≡ true → (if b then j else k).is_text ≡ true
+either_text true j k e g = e
+either_text false j k e g = g
 
-text_goes_on : (inside : Bool) (f : Formatting) (c : ℕ) (j : Joining) → j.is_text ≡ true → with_character inside f c j ≡ with_token (letter f c) true j
-text_goes_on inside f c j e = ap (λ b. if b then with_token (letter f c) true j else with_first inside f c j) e
+either_all : (b : Bool) (j k : Joining) (ts : List Token) → all_joined j ≡ ts → all_joined k ≡ ts → all_joined (if b then j else k) ≡ ts
+either_all true j k ts e g = e
+either_all false j k ts e g = g
+
+either_gap : (b : Bool) (d : ℕ) (j k : Joining) → is_gap d j ≡ false → is_gap d k ≡ false → is_gap d (if b then j else k) ≡ false
+either_gap true d j k e g = e
+either_gap false d j k e g = g
+
+letter_is_text : (f : Formatting) (c : ℕ) (j : Joining) → (with_letter f c j).is_text ≡ true
+letter_is_text f c j = either_text (is_gap c j) (with_gap f c j) (with_token (letter f c) true j) refl refl
+
+letter_after_all : (f : Formatting) (c : ℕ) (j : Joining) → all_joined (with_letter f c j) ≡ letter f c ∷ all_joined j
+letter_after_all f c j = either_all (is_gap c j) (with_gap f c j) (with_token (letter f c) true j) (letter f c ∷ all_joined j) refl refl
+
+no_gap_after : (f : Formatting) (c d : ℕ) (j : Joining) → is_gap d (with_letter f c j) ≡ false
+no_gap_after f c d j = either_gap (is_gap c j) d (with_gap f c j) (with_token (letter f c) true j) refl refl
+
+-- more of a text
+two_letters : (f : Formatting) (c d : ℕ) (j : Joining) → with_letter f d (with_letter f c j) ≡ with_all f (c ∷ d ∷ []) j
+two_letters f c d j =
+    let k = with_letter f c j in
+    ap (λ b. if b then with_gap f d k else with_token (letter f d) true k) (no_gap_after f c d j)
+    ∙ ap (λ (ts : List Token). record { done = letter f d ∷ ts; held = []; is_quoted = false; is_spaced = false; is_text = true }) (letter_after_all f c j)
+
+more_of_text : (f : Formatting) (c : ℕ) (cs : List ℕ) (j : Joining) → with_text f cs (with_letter f c j) ≡ with_text f (c ∷ cs) j
+more_of_text f c [] j = refl
+more_of_text f c (d ∷ []) j = two_letters f c d j
+more_of_text f c (d ∷ e ∷ es) j =
+    ap (λ (ts : List Token). record { done = with_letters f (d ∷ e ∷ es) ts; held = []; is_quoted = false; is_spaced = false; is_text = true }) (letter_after_all f c j)
+
+text_goes_on : (inside : Bool) (f : Formatting) (c : ℕ) (j : Joining) → j.is_text ≡ true → with_character inside f c j ≡ with_letter f c j
+text_goes_on inside f c j e = ap (λ b. if b then with_letter f c j else with_first inside f c j) e
+
+-- a text that is put
+one_is : (b : Bool) (cs ds : List ℕ) (c : ℕ) → cs ≡ c ∷ ds → (not (is_filled ds) && b) ≡ true → cs ≡ c ∷ []
+one_is b cs [] c is alone = is
+one_is b cs (d ∷ ds) c is alone = absurd (true≢false (sym alone))
+
+pub text_of_gap : (f : Formatting) (cs ds : List ℕ) (c : ℕ) (j k : Joining) → cs ≡ c ∷ ds → (not (is_filled ds) && is_gap c j) ≡ true
+    → k ≡ record j { held = with_letters f cs j.held; is_spaced = true; is_text = true } → k ≡ with_text f cs j
+text_of_gap f cs ds c j k is alone e =
+    e
+    ∙ ap (λ (xs : List ℕ). record j { held = with_letters f xs j.held; is_spaced = true; is_text = true }) (one_is (is_gap c j) cs ds c is alone)
+    ∙ sym (ap (λ b. if b then with_gap f c j else with_all f (c ∷ ds) j) alone)
+    ∙ sym (ap (λ xs. with_text f xs j) is)
+
+pub text_of_all : (f : Formatting) (cs ds : List ℕ) (c : ℕ) (j k : Joining) → cs ≡ c ∷ ds → (not (is_filled ds) && is_gap c j) ≡ false → k ≡ with_all f cs j → k ≡ with_text f cs j
+text_of_all f cs ds c j k is other e =
+    e
+    ∙ ap (λ xs. with_all f xs j) is
+    ∙ sym (ap (λ b. if b then with_gap f c j else with_all f (c ∷ ds) j) other)
+    ∙ sym (ap (λ xs. with_text f xs j) is)
 
 joining_letters : (inside : Bool) (f : Formatting) (cs : List ℕ) (ts : List Token) (j : Joining) → (joining inside ts j).is_text ≡ true
     → joining inside (with_letters f cs ts) j ≡ with_text f cs (joining inside ts j)
 joining_letters inside f [] ts j e = refl
 joining_letters inside f (c ∷ cs) ts j e =
     let one = text_goes_on inside f c (joining inside ts j) e in
-    joining_letters inside f cs (letter f c ∷ ts) j (ap (λ (k : Joining). k.is_text) one)
+    joining_letters inside f cs (letter f c ∷ ts) j (ap (λ (k : Joining). k.is_text) one ∙ letter_is_text f c (joining inside ts j))
     ∙ ap (with_text f cs) one
     ∙ more_of_text f c cs (joining inside ts j)
 
@@ -83,10 +134,6 @@ pub text_more : (inside : Bool) (f : Formatting) (cs : List ℕ) (j : Joining) �
 text_more inside f cs j e = sym (joining_letters inside f cs [] j e)
 
 -- its first character is part of a text
-either_text : (b : Bool) (j k : Joining) → j.is_text ≡ true → k.is_text ≡ true → (if b then j else k).is_text ≡ true
-either_text true j k e g = e
-either_text false j k e g = g
-
 inside_is_text : (f : Formatting) (c : ℕ) (j : Joining) → (with_inside f c j).is_text ≡ true
 inside_is_text f c j =
     either_text (ends_by is_stop (last_backwards j.done)) (record j { is_text = true }) (record j { done = letter f c ∷ j.done; is_text = true }) refl refl
@@ -94,30 +141,70 @@ inside_is_text f c j =
 meeting_is_text : (inside : Bool) (f : Formatting) (c : ℕ) (j : Joining) → (meeting inside f c j).is_text ≡ true
 meeting_is_text inside f c j =
     either_text (ends_by (λ before. is_left_out before c) (last_backwards j.done)) (record j { is_text = true })
-    (if is_taken_inside inside c j then with_inside f c j else with_token (letter f c) true j) refl
-    (either_text (is_taken_inside inside c j) (with_inside f c j) (with_token (letter f c) true j) (inside_is_text f c j) refl)
+    (if is_taken_inside inside c j then with_inside f c j else with_letter f c j) refl
+    (either_text (is_taken_inside inside c j) (with_inside f c j) (with_letter f c j) (inside_is_text f c j) (letter_is_text f c j))
+
+met_is_text : (inside : Bool) (f : Formatting) (c : ℕ) (j : Joining) → (with_met inside f c j).is_text ≡ true
+met_is_text inside f c j =
+    either_text (is_in_place c j) (with_letter f c (without_last j)) (meeting inside f c (with_room c j)) (letter_is_text f c (without_last j))
+    (meeting_is_text inside f c (with_room c j))
+
+after_gap_is_text : (inside : Bool) (f : Formatting) (c : ℕ) (j : Joining) → (with_after_gap inside f c j).is_text ≡ true
+after_gap_is_text inside f c j =
+    either_text (is_left_out space c) (record j { is_text = true }) (if is_replaced space c then with_met inside f c (without_gap j) else with_letter f c j) refl
+    (either_text (is_replaced space c) (with_met inside f c (without_gap j)) (with_letter f c j) (met_is_text inside f c (without_gap j)) (letter_is_text f c j))
 
 first_is_text : (inside : Bool) (f : Formatting) (c : ℕ) (j : Joining) → (with_first inside f c j).is_text ≡ true
 first_is_text inside f c j =
-    either_text (is_in_place c j) (with_token (letter f c) true (without_last j)) (meeting inside f c (with_room c j)) refl (meeting_is_text inside f c (with_room c j))
+    either_text j.is_spaced (with_after_gap inside f c j) (with_met inside f c j) (after_gap_is_text inside f c j) (met_is_text inside f c j)
 
 -- a text that begins
 pub text_begun : (inside : Bool) (f : Formatting) (cs ds : List ℕ) (c : ℕ) (j k : Joining) → cs ≡ c ∷ ds → j.is_text ≡ false → k ≡ with_text f ds (with_first inside f c j)
     → k ≡ joining inside (with_letters f cs []) j
 text_begun inside f cs ds c j k is none e =
-    let one : with_character inside f c j ≡ with_first inside f c j = ap (λ b. if b then with_token (letter f c) true j else with_first inside f c j) none in
+    let one : with_character inside f c j ≡ with_first inside f c j = ap (λ b. if b then with_letter f c j else with_first inside f c j) none in
     e
     ∙ sym (joining_letters inside f ds (letter f c ∷ []) j (ap (λ (i : Joining). i.is_text) one ∙ first_is_text inside f c j) ∙ ap (with_text f ds) one)
     ∙ ap (λ xs. joining inside (with_letters f xs []) j) (sym is)
 
+-- where it stands
+pub first_spaced : (inside : Bool) (f : Formatting) (c : ℕ) (cs : List ℕ) (j l : Joining) → j.is_spaced ≡ true → l ≡ with_text f cs (with_after_gap inside f c j) → l ≡ with_text f cs (with_first inside f c j)
+first_spaced inside f c cs j l so e = e ∙ sym (ap (λ b. with_text f cs (if b then with_after_gap inside f c j else with_met inside f c j)) so)
+
+pub first_elsewhere : (inside : Bool) (f : Formatting) (c : ℕ) (cs : List ℕ) (j l : Joining) → j.is_spaced ≡ false → l ≡ with_text f cs (with_met inside f c j) → l ≡ with_text f cs (with_first inside f c j)
+first_elsewhere inside f c cs j l so e = e ∙ sym (ap (λ b. with_text f cs (if b then with_after_gap inside f c j else with_met inside f c j)) so)
+
+-- what it comes to after the space that stands after a close quote
+pub gap_left_out : (inside : Bool) (f : Formatting) (c : ℕ) (cs : List ℕ) (j l : Joining) → is_left_out space c ≡ true → l ≡ with_text f cs (record j { is_text = true }) → l ≡ with_text f cs (with_after_gap inside f c j)
+gap_left_out inside f c cs j l out e =
+    e
+    ∙ sym (ap (λ b. with_text f cs (if b then record j { is_text = true } else if is_replaced space c then with_met inside f c (without_gap j) else with_letter f c j)) out)
+
+pub gap_replaced : (inside : Bool) (f : Formatting) (c : ℕ) (cs : List ℕ) (j k l : Joining) → is_left_out space c ≡ false → is_replaced space c ≡ true → k ≡ without_gap j
+    → l ≡ with_text f cs (with_met inside f c k) → l ≡ with_text f cs (with_after_gap inside f c j)
+gap_replaced inside f c cs j k l out place cut e =
+    e
+    ∙ ap (λ (i : Joining). with_text f cs (with_met inside f c i)) cut
+    ∙ sym (ap (λ b. with_text f cs (if b then with_met inside f c (without_gap j) else with_letter f c j)) place)
+    ∙ sym (ap (λ b. with_text f cs (if b then record j { is_text = true } else if is_replaced space c then with_met inside f c (without_gap j) else with_letter f c j)) out)
+
+pub gap_stays : (inside : Bool) (f : Formatting) (c : ℕ) (cs ds : List ℕ) (j l : Joining) → is_left_out space c ≡ false → is_replaced space c ≡ false → ds ≡ c ∷ cs
+    → l ≡ with_text f ds j → l ≡ with_text f cs (with_after_gap inside f c j)
+gap_stays inside f c cs ds j l out none is e =
+    e
+    ∙ ap (λ xs. with_text f xs j) is
+    ∙ sym (more_of_text f c cs j)
+    ∙ sym (ap (λ b. with_text f cs (if b then with_met inside f c (without_gap j) else with_letter f c j)) none)
+    ∙ sym (ap (λ b. with_text f cs (if b then record j { is_text = true } else if is_replaced space c then with_met inside f c (without_gap j) else with_letter f c j)) out)
+
 -- what its first character comes to
 first_placed : (b : Bool) (inside : Bool) (f : Formatting) (c : ℕ) (cs : List ℕ) (j : Joining) → is_in_place c j ≡ b
-    → with_text f cs (if b then with_token (letter f c) true (without_last j) else meeting inside f c (with_room c j)) ≡ with_text f cs (with_first inside f c j)
+    → with_text f cs (if b then with_letter f c (without_last j) else meeting inside f c (with_room c j)) ≡ with_text f cs (with_met inside f c j)
 first_placed b inside f c cs j e =
-    sym (ap (λ (p : Bool). with_text f cs (if p then with_token (letter f c) true (without_last j) else meeting inside f c (with_room c j))) e)
+    sym (ap (λ (p : Bool). with_text f cs (if p then with_letter f c (without_last j) else meeting inside f c (with_room c j))) e)
 
 pub first_in_place : (inside : Bool) (f : Formatting) (c : ℕ) (cs ds : List ℕ) (j l : Joining) → is_in_place c j ≡ true → ds ≡ c ∷ cs → l ≡ with_text f ds (without_last j)
-    → l ≡ with_text f cs (with_first inside f c j)
+    → l ≡ with_text f cs (with_met inside f c j)
 first_in_place inside f c cs ds j l so is e =
     e
     ∙ ap (λ xs. with_text f xs (without_last j)) is
@@ -125,30 +212,30 @@ first_in_place inside f c cs ds j l so is e =
     ∙ first_placed true inside f c cs j so
 
 pub first_left_out : (inside : Bool) (f : Formatting) (c : ℕ) (cs : List ℕ) (j k l : Joining) → is_in_place c j ≡ false → k ≡ with_room c j → ends_by (λ before. is_left_out before c) (last_backwards k.done) ≡ true
-    → l ≡ with_text f cs (record k { is_text = true }) → l ≡ with_text f cs (with_first inside f c j)
+    → l ≡ with_text f cs (record k { is_text = true }) → l ≡ with_text f cs (with_met inside f c j)
 first_left_out inside f c cs j k l other room out e =
     e
-    ∙ sym (ap (λ b. with_text f cs (if b then record k { is_text = true } else if is_taken_inside inside c k then with_inside f c k else with_token (letter f c) true k)) out)
+    ∙ sym (ap (λ b. with_text f cs (if b then record k { is_text = true } else if is_taken_inside inside c k then with_inside f c k else with_letter f c k)) out)
     ∙ ap (λ (i : Joining). with_text f cs (meeting inside f c i)) room
     ∙ first_placed false inside f c cs j other
 
 pub first_inside : (inside : Bool) (f : Formatting) (c : ℕ) (cs : List ℕ) (j k l : Joining) → is_in_place c j ≡ false → k ≡ with_room c j → ends_by (λ before. is_left_out before c) (last_backwards k.done) ≡ false
-    → is_taken_inside inside c k ≡ true → l ≡ with_text f cs (with_inside f c k) → l ≡ with_text f cs (with_first inside f c j)
+    → is_taken_inside inside c k ≡ true → l ≡ with_text f cs (with_inside f c k) → l ≡ with_text f cs (with_met inside f c j)
 first_inside inside f c cs j k l other room out taken e =
     e
-    ∙ sym (ap (λ b. with_text f cs (if b then with_inside f c k else with_token (letter f c) true k)) taken)
-    ∙ sym (ap (λ b. with_text f cs (if b then record k { is_text = true } else if is_taken_inside inside c k then with_inside f c k else with_token (letter f c) true k)) out)
+    ∙ sym (ap (λ b. with_text f cs (if b then with_inside f c k else with_letter f c k)) taken)
+    ∙ sym (ap (λ b. with_text f cs (if b then record k { is_text = true } else if is_taken_inside inside c k then with_inside f c k else with_letter f c k)) out)
     ∙ ap (λ (i : Joining). with_text f cs (meeting inside f c i)) room
     ∙ first_placed false inside f c cs j other
 
 pub first_outside : (inside : Bool) (f : Formatting) (c : ℕ) (cs ds : List ℕ) (j k l : Joining) → is_in_place c j ≡ false → k ≡ with_room c j → ends_by (λ before. is_left_out before c) (last_backwards k.done) ≡ false
-    → is_taken_inside inside c k ≡ false → ds ≡ c ∷ cs → l ≡ with_text f ds k → l ≡ with_text f cs (with_first inside f c j)
+    → is_taken_inside inside c k ≡ false → ds ≡ c ∷ cs → l ≡ with_text f ds k → l ≡ with_text f cs (with_met inside f c j)
 first_outside inside f c cs ds j k l other room out none is e =
     e
     ∙ ap (λ xs. with_text f xs k) is
     ∙ sym (more_of_text f c cs k)
-    ∙ sym (ap (λ b. with_text f cs (if b then with_inside f c k else with_token (letter f c) true k)) none)
-    ∙ sym (ap (λ b. with_text f cs (if b then record k { is_text = true } else if is_taken_inside inside c k then with_inside f c k else with_token (letter f c) true k)) out)
+    ∙ sym (ap (λ b. with_text f cs (if b then with_inside f c k else with_letter f c k)) none)
+    ∙ sym (ap (λ b. with_text f cs (if b then record k { is_text = true } else if is_taken_inside inside c k then with_inside f c k else with_letter f c k)) out)
     ∙ ap (λ (i : Joining). with_text f cs (meeting inside f c i)) room
     ∙ first_placed false inside f c cs j other
 
@@ -200,7 +287,7 @@ piece_of_bounds inside pieces.Unmark j e = one_bound j.is_quoted pieces.Unmark u
 
 -- a link, or a close quote
 pub link_alone : (inside : Bool) (f : Formatting) (cs url : List ℕ) (j k : Joining) → is_filled url ≡ true
-    → k ≡ record { done = link f cs url ∷ all_joined j; held = []; is_quoted = false; is_text = false } → k ≡ joining inside (link f cs url ∷ []) j
+    → k ≡ record { done = link f cs url ∷ all_joined j; held = []; is_quoted = false; is_spaced = false; is_text = false } → k ≡ joining inside (link f cs url ∷ []) j
 link_alone inside f cs [] j k e is = absurd (true≢false (sym e))
 link_alone inside f cs (u ∷ url) j k e is = is
 

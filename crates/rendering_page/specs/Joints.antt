@@ -42,17 +42,19 @@ first (c ∷ cs) = Some c
 abbrev pub ends_by : (ℕ → Bool) → List ℕ → Bool
 ends_by holds cs = option_map_or holds (first cs) false
 
--- What is joined so far: `done`, and after that `held`, a close quote and what begins and ends after it; whether there is a close quote;
--- and whether the last token is part of a text.
+-- What is joined so far: `done`, and after that `held`, a close quote and what begins and ends after it, with one space after the quote;
+-- whether there is a close quote, and such a space; and whether the last token is part of a text.
 pub record Joining : Type 0 where
   pub done : List Token
   pub held : List Token
   pub is_quoted : Bool
+  pub is_spaced : Bool
   pub is_text : Bool
 
 -- nothing
 abbrev pub nothing_joined : Joining
-nothing_joined = record { done = []; held = []; is_quoted = false; is_text = false }
+nothing_joined =
+    record { done = []; held = []; is_quoted = false; is_spaced = false; is_text = false }
 
 -- all of it
 abbrev pub all_joined : Joining → List Token
@@ -60,7 +62,13 @@ all_joined j = j.held ++ j.done
 
 -- a token after all of it
 abbrev pub with_token : Token → Bool → Joining → Joining
-with_token t is_text j = record { done = t ∷ all_joined j; held = []; is_quoted = false; is_text = is_text }
+with_token t is_text j = record {
+  done = t ∷ all_joined j;
+  held = [];
+  is_quoted = false;
+  is_spaced = false;
+  is_text = is_text;
+}
 
 -- the start or the end of something, after a close quote if there is one
 abbrev pub with_bound : Token → Joining → Joining
@@ -71,7 +79,29 @@ with_bound t j =
 
 -- a close quote
 abbrev pub with_quote : Formatting → List ℕ → Joining → Joining
-with_quote f cs j = record { done = all_joined j; held = with_letters f cs []; is_quoted = true; is_text = false }
+with_quote f cs j = record {
+  done = all_joined j;
+  held = with_letters f cs [];
+  is_quoted = true;
+  is_spaced = false;
+  is_text = false;
+}
+
+-- whether a character is the first space after a close quote
+abbrev pub is_gap : ℕ → Joining → Bool
+is_gap c j = not j.is_spaced && (j.is_quoted && c == space)
+
+-- such a space, after which the quote is still met
+abbrev pub with_gap : Formatting → ℕ → Joining → Joining
+with_gap f c j = record j { held = letter f c ∷ j.held; is_spaced = true; is_text = true }
+
+-- a character after all of it
+abbrev pub with_letter : Formatting → ℕ → Joining → Joining
+with_letter f c j = if is_gap c j then with_gap f c j else with_token (letter f c) true j
+
+-- without the space after a close quote
+abbrev pub without_gap : Joining → Joining
+without_gap j = record j { held = without_letters 1 j.held; is_spaced = false }
 
 -- whether a character goes inside the close quote
 abbrev pub is_taken_inside : Bool → ℕ → Joining → Bool
@@ -110,18 +140,34 @@ meeting inside f c j =
     then record j { is_text = true }
     else if is_taken_inside inside c j
     then with_inside f c j
-    else with_token (letter f c) true j
+    else with_letter f c j
 
--- the first character of a text; of two full stops that meet the second one, whatever stands before the first
+-- The first character of a text that meets what stands before it, over a close quote or not; of two full stops that meet the second one
+-- stays, whatever stands before the first.
+abbrev pub with_met : Bool → Formatting → ℕ → Joining → Joining
+with_met inside f c j =
+    if is_in_place c j
+    then with_letter f c (without_last j)
+    else meeting inside f c (with_room c j)
+
+-- the first character of a text after the space that stands after a close quote: one that takes the place of the space meets what stands
+-- before that, over the quote
+abbrev pub with_after_gap : Bool → Formatting → ℕ → Joining → Joining
+with_after_gap inside f c j =
+    if is_left_out space c
+    then record j { is_text = true }
+    else if is_replaced space c
+    then with_met inside f c (without_gap j)
+    else with_letter f c j
+
+-- the first character of a text
 abbrev pub with_first : Bool → Formatting → ℕ → Joining → Joining
 with_first inside f c j =
-    if is_in_place c j
-    then with_token (letter f c) true (without_last j)
-    else meeting inside f c (with_room c j)
+    if j.is_spaced then with_after_gap inside f c j else with_met inside f c j
 
 -- a character of a text
 abbrev pub with_character : Bool → Formatting → ℕ → Joining → Joining
-with_character inside f c j = if j.is_text then with_token (letter f c) true j else with_first inside f c j
+with_character inside f c j = if j.is_text then with_letter f c j else with_first inside f c j
 
 -- a token more; a link without an address is a close quote
 abbrev pub joining_token : Bool → Token → Joining → Joining

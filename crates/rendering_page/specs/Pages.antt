@@ -1,7 +1,6 @@
 -- Pages: what was appended so far, and what appending the next thing makes of it.
 use Rattle.std.specs.Prelude.{ℕ, zero, suc, Bool, true, false, not, ◌==◌, ◌&&◌, ◌||◌, List, [], ◌∷◌, length, find, if◌then◌else◌, Option, Some, None}
 use Rattle.std.specs.Char.{is_whitespace}
-use Rattle.std.specs.Option.{option_or}
 use Rattle.laws.specs.Characters.{space, no_break_space}
 use Rattle.laws.specs.Text.{is_filled}
 use Rattle.rendering_taxonomy.specs.Formats.{plain}
@@ -13,6 +12,7 @@ use Rattle.rendering_taxonomy.specs.declared.formatting.Formatting.{Formatting}
 use Rattle.rendering_taxonomy.specs.declared.page.PageRule.{PageRule}
 use Rattle.rendering_taxonomy.specs.declared.page.PageRule.TheVariants as rules
 use Rattle.rendering_taxonomy.specs.declared.text_case.TextCase.{TextCase}
+use Rattle.rendering_taxonomy.specs.declared.text_case.TextCase.TheVariants as text_cases
 use Rattle.rendering_cases.specs.Cases.{cased_text}
 
 -- whether texts are joined by what punctuation they have
@@ -47,9 +47,27 @@ pub record Manner : Type 0 where
 abbrev pub uncased : Manner → Manner
 uncased m = record m { text_case = None }
 
--- the same in a case, unless there is one already: what is around texts comes first
+-- whether a case is one of words, which changes no word with a capital
+abbrev pub is_of_words : TextCase → Bool
+is_of_words text_cases.CapitalizeFirst = true
+is_of_words text_cases.CapitalizeAll = true
+is_of_words text_cases.Title = true
+is_of_words case = false
+
+-- whether texts in a case stay so inside another one: those in capitals in a case of words
+abbrev pub stays_inside : TextCase → TextCase → Bool
+stays_inside outer text_cases.Uppercase = is_of_words outer
+stays_inside outer inner = false
+
+-- a case inside another one: what is around texts counts, unless it would change nothing
+abbrev pub case_inside : Option TextCase → Option TextCase → Option TextCase
+case_inside None inner = inner
+case_inside (Some outer) None = Some outer
+case_inside (Some outer) (Some inner) = if stays_inside outer inner then Some inner else Some outer
+
+-- the same in a case, inside the one that there is already
 abbrev pub with_case : Option TextCase → Manner → Manner
-with_case case m = record m { text_case = option_or m.text_case case }
+with_case case m = record m { text_case = case_inside m.text_case case }
 
 -- The close quotes inside which punctuation goes, in the order in which they are tried; none where it stays outside.
 abbrev pub Quotes : Type 0

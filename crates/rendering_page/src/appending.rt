@@ -1,6 +1,6 @@
 //! What is appended to a page.
 
-ghost use Rattle.std.specs.Prelude.{◌≡◌, ◌∷◌, ◌++◌, ◌<◌, [], true, List, ℕ, Bool, OnErr, OnOk, length, Option, Some, None, vec_capacity, vec_len};
+ghost use Rattle.std.specs.Prelude.{◌≡◌, ◌∷◌, ◌++◌, ◌<◌, [], true, false, List, ℕ, Bool, OnErr, OnOk, length, Option, Some, None, vec_capacity, vec_len};
 ghost use Rattle.std.specs.Option.{option_map};
 ghost use Rattle.std.specs.Str.{chars};
 ghost use Rattle.rendering_tree.specs.Tokens.{Token, mark, opening, unmark, with_letters};
@@ -77,11 +77,26 @@ pub(crate) fn append<'a>(
         (remaining (words_view words.entry) (pieces_view pieces.old.items))) }
 {
     make_room(pieces, words.as_str());
-    append_in_manner(pieces, manner, words)
+    if changes(manner) {
+        return append_in_manner(pieces, manner, words);
+    }
+    append_words(pieces, manner.formatting, words)
+}
+
+/// Whether a manner changes any text: there is a case for it, or full stops go.
+#[inline(always)]
+fn changes(manner: Manner) -> bool
+    ensures { result ≡ false
+        → (cs : List ℕ) → pages.in_manner (views.manner_view manner) cs ≡ cs }
+{
+    if applies(manner.text_case, manner.is_english) {
+        return true;
+    }
+    manner.strips_periods
 }
 
 /// Appends a text as a manner has it. A text that stays in the case that it has is not copied.
-#[inline(always)]
+#[inline(never)]
 pub(crate) fn append_in_manner<'a>(
     pieces: &mut Vec<Piece<'a>>,
     manner: Manner,

@@ -1,10 +1,12 @@
 //! The texts of a page, joined where they meet.
 
-ghost use Rattle.std.specs.Prelude.{◌≡◌, ◌∷◌, [], false, true, Bool, List, ℕ, IfOk, OnOk};
+ghost use Rattle.std.specs.Prelude.{◌≡◌, ◌&&◌, ◌∷◌, [], false, not, true, Bool, List, ℕ, IfOk, OnOk};
+ghost use Rattle.std.specs.Str.{chars};
+ghost use Rattle.laws.specs.Text.{is_filled};
 ghost use Rattle.rendering_tree.specs.Tokens.{last_backwards, with_letters};
-ghost use Rattle.rendering_page.specs.Joints.{all_joined, ends_by, is_in_place, is_left_out, is_replaced, is_taken_inside, joining, nothing_joined, with_first, with_inside, with_quote, with_room, without_last};
+ghost use Rattle.rendering_page.specs.Joints.{all_joined, ends_by, is_in_place, is_left_out, is_replaced, is_gap, is_taken_inside, joining, nothing_joined, with_after_gap, with_first, with_inside, with_met, with_quote, with_room, without_gap, without_last};
 ghost use Rattle.rendering_page.specs.Joints as specs;
-ghost use Rattle.rendering_page.specs.JoiningPieces.{with_bounds, with_piece_alone, with_text};
+ghost use Rattle.rendering_page.specs.JoiningPieces.{with_all, with_bounds, with_piece_alone, with_text};
 ghost use Rattle.rendering_page.specs.Views.{link_view, pieces_view, with_piece, words_view};
 
 use crate::appending::push_piece;
@@ -21,10 +23,12 @@ use texts::{empty_text, has_text, push_character, split_first};
 struct Joining<'a> {
     /// What stands before a close quote, or all of it.
     done: Vec<Piece<'a>>,
-    /// A close quote, and what begins and ends after it.
+    /// A close quote, and what begins and ends after it, with one space after the quote.
     held: Vec<Piece<'a>>,
     /// Whether there is a close quote.
     is_quoted: bool,
+    /// Whether there is such a space.
+    is_spaced: bool,
     /// Whether the last piece is part of a text.
     is_text: bool,
 }
@@ -35,6 +39,7 @@ impl Drop for Joining<'_> {
             done: _,
             held: _,
             is_quoted: _,
+            is_spaced: _,
             is_text: _,
         } = self;
     }
@@ -51,6 +56,7 @@ impl<'a> Model for Joining<'a> {
       done = pieces_view j.done.items;
       held = pieces_view j.held.items;
       is_quoted = j.is_quoted;
+      is_spaced = j.is_spaced;
       is_text = j.is_text;
     } };
 }
@@ -77,6 +83,7 @@ impl<'a> Joining<'a> {
             done: Vec::new(alloc),
             held: Vec::new(alloc),
             is_quoted: false,
+            is_spaced: false,
             is_text: false,
         }
     }
@@ -90,6 +97,7 @@ impl<'a> Joining<'a> {
             done,
             held: _,
             is_quoted: _,
+            is_spaced: _,
             is_text: _,
         } = self;
         Ok(done)
@@ -132,11 +140,11 @@ impl<'a> Joining<'a> {
         if self.is_text {
             return self.put_text(formatting, words);
         }
-        self.meet(inside, formatting, first, words)
+        self.begin(inside, formatting, first, words)
     }
 
-    /// A text that begins here.
-    fn meet(
+    /// A text that begins, after the space that stands after a close quote or elsewhere.
+    fn begin(
         &mut self,
         inside: bool,
         formatting: Formatting,
@@ -145,6 +153,52 @@ impl<'a> Joining<'a> {
     ) -> Result<(), AllocError>
         ensures { (cs : List ℕ) → words_view words.entry ≡ first ∷ cs → OnOk result
             (self.new ≡ with_text formatting cs (with_first inside formatting first self.old)) }
+    {
+        if self.is_spaced {
+            return self.meet_gap(inside, formatting, first, words);
+        }
+        self.meet(inside, formatting, first, words)
+    }
+
+    /// A text that begins after the space that stands after a close quote.
+    fn meet_gap(
+        &mut self,
+        inside: bool,
+        formatting: Formatting,
+        first: char,
+        words: Words<'a>,
+    ) -> Result<(), AllocError>
+        ensures { (cs : List ℕ) → words_view words.entry ≡ first ∷ cs → OnOk result
+            (self.new ≡ with_text formatting cs (with_after_gap inside formatting first self.old)) }
+    {
+        if is_left_out(' ', first) {
+            return self.go_on(formatting, words);
+        }
+        if is_replaced(' ', first) {
+            self.cut_gap();
+            return self.meet(inside, formatting, first, words);
+        }
+        self.put_text(formatting, words)
+    }
+
+    /// Cuts the space after a close quote.
+    fn cut_gap(&mut self)
+        ensures { self.new ≡ without_gap self.old }
+    {
+        self.is_spaced = false;
+        cut(&mut self.held, 1);
+    }
+
+    /// A text that meets what stands before it.
+    fn meet(
+        &mut self,
+        inside: bool,
+        formatting: Formatting,
+        first: char,
+        words: Words<'a>,
+    ) -> Result<(), AllocError>
+        ensures { (cs : List ℕ) → words_view words.entry ≡ first ∷ cs → OnOk result
+            (self.new ≡ with_text formatting cs (with_met inside formatting first self.old)) }
     {
         if self.takes_place(first) {
             return self.put_in_place(formatting, words);
@@ -275,12 +329,43 @@ impl<'a> Joining<'a> {
         ensures { OnOk result (self.new
             ≡ with_text formatting (words_view words.entry) self.old) }
     {
-        if has_text(words.as_str()) {
-            self.release()?;
-            self.is_text = true;
-            push_piece(&mut self.done, Piece::Text { formatting, words })?;
+        let Some((first, rest)) = split_first(words.as_str()) else {
+            return Ok(());
+        };
+        if self.is_gap(first, rest) {
+            return self.put_gap(formatting, words);
         }
-        Ok(())
+        self.put_all(formatting, words)
+    }
+
+    /// Whether a character, and nothing more, is the first space after a close quote.
+    fn is_gap(&self, first: char, rest: &str) -> bool
+        ensures { result ≡ not (is_filled (chars rest.now)) && is_gap first self.now }
+    {
+        !has_text(rest) && (!self.is_spaced && (self.is_quoted && first == ' '))
+    }
+
+    /// A text after a close quote, with which the quote is still met.
+    fn put_gap(&mut self, formatting: Formatting, words: Words<'a>) -> Result<(), AllocError>
+        ensures { OnOk result (self.new ≡ record self.old {
+          held = with_letters formatting (words_view words.entry) self.old.held;
+          is_spaced = true;
+          is_text = true;
+        }) }
+    {
+        self.is_spaced = true;
+        self.is_text = true;
+        let gap = Piece::Text { formatting, words };
+        push_piece(&mut self.held, gap)
+    }
+
+    /// A text after all.
+    fn put_all(&mut self, formatting: Formatting, words: Words<'a>) -> Result<(), AllocError>
+        ensures { OnOk result (self.new ≡ with_all formatting (words_view words.entry) self.old) }
+    {
+        self.release()?;
+        self.is_text = true;
+        push_piece(&mut self.done, Piece::Text { formatting, words })
     }
 
     /// A link, or a close quote.
@@ -307,6 +392,7 @@ impl<'a> Joining<'a> {
     {
         self.release()?;
         self.is_quoted = true;
+        self.is_spaced = false;
         self.is_text = false;
         push_piece(&mut self.held, Piece::Text { formatting, words })
     }
@@ -335,9 +421,11 @@ impl<'a> Joining<'a> {
     #[tactic(auto, using(crate::proofs::JoiningSteps::pieces_after))]
     fn release(&mut self) -> Result<(), AllocError>
         ensures { OnOk result (self.new
-            ≡ record self.old { done = all_joined self.old; held = []; is_quoted = false }) }
+            ≡ record self.old
+            { done = all_joined self.old; held = []; is_quoted = false; is_spaced = false }) }
     {
         self.is_quoted = false;
+        self.is_spaced = false;
         self.done.append(&mut self.held)
     }
 }

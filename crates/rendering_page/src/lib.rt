@@ -18,5 +18,5 @@ mod tail;
 pub use joints::{goes_inside, is_left_out, is_replaced, is_stop};
 pub use manner::{Frame, Manner, is_joined, uncased, with_case};
 pub use page::Page;
-pub use piece::{Link, Piece, Words, looks_like, no_words, pop_made, split_last};
+pub use piece::{Link, Piece, Words, looks_like, no_words, pop_made, split_last, trim_made};
 pub use plain::plain_manner;

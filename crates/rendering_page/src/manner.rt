@@ -36,12 +36,49 @@ pub struct Frame<'a> {
     pub suffix: &'a str,
 }
 
-/// The same in a case, unless there is one already: what is around texts comes first.
+/// Whether texts in a case stay so inside another one: those in capitals in a case of words.
+fn stays_inside(outer: TextCase, inner: TextCase) -> bool
+    ensures { result ≡ pages.stays_inside outer inner }
+{
+    match inner {
+        TextCase::Uppercase => is_of_words(outer),
+        _ => false,
+    }
+}
+
+/// Whether a case is one of words, which changes no word with a capital.
+fn is_of_words(case: TextCase) -> bool
+    ensures { result ≡ pages.is_of_words case }
+{
+    matches!(
+        case,
+        TextCase::CapitalizeFirst | TextCase::CapitalizeAll | TextCase::Title
+    )
+}
+
+/// A case inside another one: what is around texts counts, unless it would change nothing.
+fn case_inside(outer: Option<TextCase>, inner: Option<TextCase>) -> Option<TextCase>
+    ensures { result ≡ pages.case_inside outer inner }
+{
+    match (outer, inner) {
+        (None, inner) => inner,
+        (Some(outer), None) => Some(outer),
+        (Some(outer), Some(inner)) => {
+            if stays_inside(outer, inner) {
+                Some(inner)
+            } else {
+                Some(outer)
+            }
+        }
+    }
+}
+
+/// The same in a case, inside the one that there is already.
 pub fn with_case(manner: Manner, text_case: Option<TextCase>) -> Manner
     ensures { manner_view result ≡ pages.with_case text_case (manner_view manner) }
 {
     Manner {
-        text_case: manner.text_case.or(text_case),
+        text_case: case_inside(manner.text_case, text_case),
         ..manner
     }
 }

@@ -209,7 +209,7 @@ fn trim_borrowed<'a>(text: &mut &'a str)
 }
 
 /// Takes the white space off the end of a text.
-fn trim_made(text: &mut String)
+pub fn trim_made(text: &mut String)
     ensures { characters text.new ≡ drop_trailing_whitespace (characters text.old) }
 {
     let end = trimmed(text.as_str()).len();

@@ -49,6 +49,7 @@ pub record Citation : Type 0 where
   pub raises_names_first : Bool
   pub gathers_by_text : Bool
   pub locators_end_runs : Bool
+  pub repeats_no_years : Bool
 
 -- cites that are not disambiguated, not gathered and not collapsed
 abbrev pub plain_citation : Layout → Citation
@@ -71,6 +72,7 @@ plain_citation l = record {
   raises_names_first = false;
   gathers_by_text = false;
   locators_end_runs = false;
+  repeats_no_years = false;
 }
 
 -- how the items of a bibliography are printed

@@ -245,6 +245,7 @@ citation_layout_view c = record {
   raises_names_first = c.raises_names_first;
   gathers_by_text = c.gathers_by_text;
   locators_end_runs = c.locators_end_runs;
+  repeats_no_years = c.repeats_no_years;
 }
 
 -- what is specified for the bibliography

@@ -60,6 +60,8 @@ pub struct Citation {
     pub gathers_by_text: bool,
     /// Whether a cite with a locator stands in no run of numbers.
     pub locators_end_runs: bool,
+    /// Whether a cite whose years are collapsed leaves its year out where its year suffix is of the class of the one shown before it.
+    pub repeats_no_years: bool,
 }
 
 impl Citation {
@@ -90,6 +92,7 @@ impl Citation {
             raises_names_first: false,
             gathers_by_text: false,
             locators_end_runs: false,
+            repeats_no_years: false,
         }
     }
 }

@@ -1,34 +1,15 @@
 //! Dates as styles print them.
 
+use crate::lists::list_of;
 use crate::printed::pages::{manner, put_characters, put_page_tree};
-use crate::styles::{PARTS, date_parts, locales, part_changes};
 use cases::{Refusal, Session, Value, given};
+use csl_words::DATE_PARTS;
 use literature::Date;
 use rendering_dates::{DateShape, DateStyle, push_years};
 use rendering_locale::{AskedLocales, DatePart, Locale};
 use rendering_page::Page;
 use rendering_style::DatePartChange;
 use rendering_taxonomy::DateParts;
-
-/// Writes the years of a date as the member `years`.
-fn put_years(session: &mut Session, locales: &AskedLocales<'_>, date: &Date) {
-    let mut years = String::new(session.alloc);
-    session.check(push_years(&mut years, locales, date));
-    session.put_text("years", years.as_str());
-}
-
-/// Writes what a page shows to which a date was appended, and its tree.
-fn put_dated<'a>(
-    session: &mut Session,
-    style: &DateStyle<'_, 'a>,
-    year_suffix: &'a str,
-    date: &Date,
-) {
-    let mut page = Page::new(session.alloc);
-    session.check(style.push_date(&mut page, year_suffix, date));
-    put_characters(session, &page);
-    put_page_tree(session, page);
-}
 
 /// The text of a member; one that is left out is empty.
 pub(crate) fn text_or_none<'v>(
@@ -49,7 +30,7 @@ fn shape<'a>(
     parts: &'a [DatePart],
     changes: &'a [DatePartChange],
 ) -> DateShape<'a> {
-    let cut = session.word_or(case, "parts", PARTS, DateParts::YearMonthDay);
+    let cut = session.word_or(case, "parts", DATE_PARTS, DateParts::YearMonthDay);
     let delimiter = text_or_none(session, case, "delimiter");
     let merges_ranges = session.is_set(case, "merges_ranges");
     DateShape {
@@ -61,8 +42,9 @@ fn shape<'a>(
     }
 }
 
-/// Writes how the date of a case is printed by these locales and in this shape.
-fn put_shaped<'s, 'a>(
+/// Writes what a page shows to which the date of a case was appended by these locales and in this shape, with the close quotes of the
+/// case; its tree; and the years of the date as the member `years`.
+fn put_dated<'s, 'a>(
     session: &mut Session,
     case: &'a Value<'_>,
     quotes: &'s [&'s str],
@@ -79,8 +61,13 @@ fn put_shaped<'s, 'a>(
     };
     let year_suffix = text_or_none(session, case, "letters");
     let date: Date = given(session, case, "date");
-    put_dated(session, &style, year_suffix, &date);
-    put_years(session, locales, &date);
+    let mut page = Page::new(session.alloc);
+    session.check(style.push_date(&mut page, year_suffix, &date));
+    put_characters(session, &page);
+    put_page_tree(session, page);
+    let mut years = String::new(session.alloc);
+    session.check(push_years(&mut years, locales, &date));
+    session.put_text("years", years.as_str());
 }
 
 /// Writes how the date of a case is printed by these locales and in this shape, with the close quotes of the case.
@@ -94,15 +81,15 @@ fn put_asked<'a>(
     let quotes = session.texts(case, "quotes");
     let code = session.text(case, "code");
     match AskedLocales::new(session.alloc, code, own, files) {
-        Ok(asked) => put_shaped(session, case, quotes.as_slice(), &asked, shape),
+        Ok(asked) => put_dated(session, case, quotes.as_slice(), &asked, shape),
         Err(_) => session.refuse(Refusal::Memory),
     }
 }
 
 /// Writes how the date of a case is printed by these locales.
 fn put_listed(session: &mut Session, case: &Value<'_>, own: &[Locale], files: &[Locale]) {
-    let parts = date_parts(session, case);
-    let changes = part_changes(session, case);
+    let parts: Vec<DatePart> = list_of(session, case, "date_parts");
+    let changes: Vec<DatePartChange> = list_of(session, case, "part_changes");
     let shape = shape(session, case, parts.as_slice(), changes.as_slice());
     put_asked(session, case, own, files, shape);
 }
@@ -131,7 +118,7 @@ const MEMBERS: [&str; 17] = [
 /// `date`: what a page shows to which a date was appended, its tree, and the years of the date.
 pub(crate) fn answer(session: &mut Session, case: &Value<'_>) {
     session.only(case, &MEMBERS);
-    let own = locales(session, case, "own");
-    let files = locales(session, case, "files");
+    let own: Vec<Locale> = list_of(session, case, "own");
+    let files: Vec<Locale> = list_of(session, case, "files");
     put_listed(session, case, own.as_slice(), files.as_slice());
 }

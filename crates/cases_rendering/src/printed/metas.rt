@@ -1,5 +1,6 @@
 //! What elements of trees stand for.
 
+use crate::lists::{ListItem, list_of};
 use cases::{Session, Value, given, member, put_member, word_of};
 use csl_words::NAME_VARIABLES;
 use literature::Person;
@@ -28,19 +29,13 @@ fn name_variable(session: &mut Session, object: &Value<'_>, name: &'static str) 
     session.required(variable, name, "a variable of names", NameVariable::Author)
 }
 
-/// The variables of a names node, each with the people that answer it.
-fn answered(session: &mut Session, object: &Value<'_>) -> Vec<(Vec<Person>, NameVariable)> {
-    let mut names = Vec::new(session.alloc);
-    let Some(items) = session.items(object, "names") else {
-        return names;
-    };
-    for item in items {
+/// A variable of a names node, with the people that answer it.
+impl ListItem for (Vec<Person>, NameVariable) {
+    fn given(session: &mut Session, item: &Value<'_>) -> (Vec<Person>, NameVariable) {
         session.only(item, &["variable", "people"]);
         let variable = name_variable(session, item, "variable");
-        let people = given(session, item, "people");
-        session.push(&mut names, (people, variable));
+        (given(session, item, "people"), variable)
     }
-    names
 }
 
 /// The members of an object that says what an element stands for.
@@ -50,7 +45,7 @@ const MEMBERS: [&str; 5] = ["names", "name_variable", "name", "place", "entry"];
 fn meta_in(session: &mut Session, object: &Value<'_>) -> ElemMeta {
     session.only(object, &MEMBERS);
     if member(object, "names").is_some() {
-        return ElemMeta::Names(answered(session, object));
+        return ElemMeta::Names(list_of(session, object, "names"));
     }
     if member(object, "entry").is_some() {
         return ElemMeta::Entry(session.count(object, "entry"));

@@ -1,12 +1,11 @@
 //! Numbers as texts.
 
 use crate::styles::{NUMBER_FORMS, maybe_ordinals};
-use cases::{Session, Value, given, member};
+use cases::{Refusal, Session, Value, given, member};
 use literature::{MaybeTyped, Numeric};
 use rendering_locale::Ordinals;
 use rendering_numbers::{push_number, push_numeral_or_text, push_year_suffix, write_year};
 use rendering_taxonomy::NumberForm;
-use std::alloc::AllocError;
 
 /// `write_year`: a year, by the terms for the eras.
 pub(crate) fn answer_year(session: &mut Session, case: &Value<'_>) {
@@ -16,21 +15,9 @@ pub(crate) fn answer_year(session: &mut Session, case: &Value<'_>) {
     let ad = session.text(case, "ad");
     let bc = session.text(case, "bc");
     let mut written = String::new(session.alloc);
-    session.check(put_year(&mut written, year, short, ad, bc));
-    session.put_text("text", written.as_str());
-}
-
-/// Appends what is written of a year.
-fn put_year(
-    out: &mut String,
-    year: i32,
-    short: bool,
-    ad: &str,
-    bc: &str,
-) -> Result<(), AllocError> {
-    match write_year(year, short, out, ad, bc) {
-        Ok(()) => Ok(()),
-        Err(_) => Err(AllocError),
+    match write_year(year, short, &mut written, ad, bc) {
+        Ok(()) => session.put_text("text", written.as_str()),
+        Err(_) => session.refuse(Refusal::Memory),
     }
 }
 

@@ -3,12 +3,12 @@
 use crate::printed::dated::text_or_none;
 use crate::printed::metas::maybe_meta;
 use crate::printed::written_trees::put_tree;
-use crate::styles::{DISPLAYS, PAGE_RULES, formatting};
+use crate::styles::{PAGE_RULES, formatting};
 use cases::{Session, Value, maybe_given, member};
-use csl_words::TEXT_CASES;
+use csl_words::{DISPLAYS, TEXT_CASES};
 use literature::StringChunk;
 use rendering_building::into_tree;
-use rendering_page::{Frame, Manner, Page};
+use rendering_page::{Frame, Manner, Page, plain_manner};
 use rendering_taxonomy::PageRule;
 
 /// How deep elements may nest.
@@ -31,17 +31,6 @@ pub(crate) fn manner(session: &mut Session, item: &Value<'_>) -> Manner {
         text_case: session.maybe_word(item, "text_case", TEXT_CASES),
         is_english: session.is_set(item, "english"),
     }
-}
-
-/// Appends an ordinary text that looks plain.
-fn put_plain<'a>(
-    session: &mut Session,
-    setting: &PageSetting<'_, 'a>,
-    page: &mut Page<'a>,
-    text: &'a str,
-) {
-    let manner = manner(session, &Value::Null);
-    session.check(page.push_text(setting.quotes, manner, text));
 }
 
 /// Appends an ordinary text, or a copy of it where that is asked for.
@@ -251,7 +240,7 @@ fn put<'a>(
     depth: u32,
 ) {
     if let Value::String(text) = item {
-        return put_plain(session, setting, page, text);
+        return session.check(page.push_text(setting.quotes, plain_manner(), text));
     }
     match member(item, "elem") {
         Some(_) => put_elem(session, setting, page, item, depth),

@@ -1,8 +1,9 @@
 //! Trees of what was printed, as a case gives them.
 
 use crate::printed::metas::maybe_meta;
-use crate::styles::{DISPLAYS, formatting};
+use crate::styles::formatting;
 use cases::{Session, Value, member};
+use csl_words::DISPLAYS;
 use rendering_taxonomy::Formatting;
 use rendering_tree::{Elem, ElemChild, ElemChildren, Formatted};
 

@@ -1,7 +1,8 @@
 //! Texts that look so, links and elements, in plain text and in HTML.
 
-use crate::styles::{DISPLAYS, formatting};
+use crate::styles::formatting;
 use cases::{Refusal, Session, Value};
+use csl_words::DISPLAYS;
 use rendering_output::BufWriteFormat;
 use rendering_taxonomy::{Display, Formatting};
 use std::fmt;

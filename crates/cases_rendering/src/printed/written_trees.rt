@@ -1,8 +1,9 @@
 //! Trees of what was printed, written as JSON.
 
 use crate::printed::metas::put_meta;
-use crate::styles::{DISPLAYS, is_plain, put_formatting};
+use crate::styles::{is_plain, put_formatting};
 use cases::{Session, word_of};
+use csl_words::DISPLAYS;
 use rendering_tree::{Elem, ElemChild, ElemChildren, Formatted};
 
 /// Writes a text: as a JSON string where it looks plain, else as an object.

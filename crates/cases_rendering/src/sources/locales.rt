@@ -1,6 +1,6 @@
 //! Locales of a case.
 
-use crate::styles::locale;
+use crate::lists::ListItem;
 use cases::{Session, Value};
 use cite_styles::english;
 use rendering_locale::Locale;
@@ -17,7 +17,7 @@ pub fn maybe_locale(
             session.want(name, "a locale, or the word english");
             None
         }
-        None => Some(locale(session, given)),
+        None => Some(Locale::given(session, given)),
     }
 }
 

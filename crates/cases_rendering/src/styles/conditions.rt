@@ -3,26 +3,12 @@
 use crate::styles::terms::locator;
 use crate::styles::variables::{any, printed};
 use cases::{Session, Value, value_of};
-use csl_words::{DATE_VARIABLES, KINDS};
+use csl_words::{DATE_VARIABLES, KINDS, MATCHES, POSITIONS};
 use rendering_style::{ChooseTest, Condition};
-use rendering_taxonomy::{ChooseMatch, TestPosition};
-
-const POSITIONS: &[(&str, TestPosition)] = &[
-    ("first", TestPosition::First),
-    ("subsequent", TestPosition::Subsequent),
-    ("ibid", TestPosition::Ibid),
-    ("ibid-with-locator", TestPosition::IbidWithLocator),
-    ("near-note", TestPosition::NearNote),
-];
-
-const MATCHES: &[(&str, ChooseMatch)] = &[
-    ("all", ChooseMatch::All),
-    ("any", ChooseMatch::Any),
-    ("none", ChooseMatch::None),
-];
+use rendering_taxonomy::ChooseMatch;
 
 /// The lists of tests of a branch, in the order in which they are tried.
-const TESTS: [&str; 6] = [
+const TESTS: &[&str] = &[
     "type",
     "variable",
     "is_numeric",
@@ -66,7 +52,7 @@ pub(crate) fn condition(session: &mut Session, branch: &Value<'_>) -> Condition 
     let required = session.word_or(branch, "match", MATCHES, ChooseMatch::All);
     let mut tests = Vec::new(session.alloc);
     for name in TESTS {
-        push_tests(session, branch, name, &mut tests);
+        push_tests(session, branch, *name, &mut tests);
     }
     if session.is_set(branch, "disambiguate") {
         session.push(&mut tests, ChooseTest::Disambiguate);

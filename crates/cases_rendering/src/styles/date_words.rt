@@ -1,23 +1,10 @@
-//! The words of dates and of their parts.
+//! The words of parts of dates.
 
 use crate::styles::terms::form_of;
 use cases::{Session, Value};
 use csl_words::LENGTHS;
 use rendering_style::ChangedDatePart;
-use rendering_taxonomy::{DateDayForm, DateForm, DateMonthForm, DatePartForm, DateParts};
-
-/// Forms of a locale's dates.
-pub(crate) const FORMS: &[(&str, DateForm)] = &[
-    ("text", DateForm::Text),
-    ("numeric", DateForm::Numeric),
-];
-
-/// Which parts are printed.
-pub const PARTS: &[(&str, DateParts)] = &[
-    ("year-month-day", DateParts::YearMonthDay),
-    ("year-month", DateParts::YearMonth),
-    ("year", DateParts::Year),
-];
+use rendering_taxonomy::{DateDayForm, DateMonthForm, DatePartForm};
 
 const MONTHS: &[(&str, DateMonthForm)] = &[
     ("long", DateMonthForm::Long),

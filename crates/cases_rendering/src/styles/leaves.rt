@@ -1,13 +1,12 @@
 //! Nodes without nodes in them.
 
-use crate::styles::date_words::{FORMS as DATE_FORMS, PARTS};
-use crate::styles::dates::{date_parts, part_changes};
+use crate::lists::list_of;
 use crate::styles::looks::look;
 use crate::styles::names::label_look;
 use crate::styles::terms::{form_of, term_of};
 use crate::styles::variables::{date_of, numbered_of, printed_of};
 use cases::{Session, Value, member};
-use csl_words::TERM_FORMS;
+use csl_words::{DATE_FORMS, DATE_PARTS, TERM_FORMS};
 use rendering_style::{Date, Label, Node, Number, Text, TextLook, TextTarget};
 use rendering_taxonomy::{DateParts, NumberForm, TermForm};
 
@@ -19,17 +18,17 @@ pub const NUMBER_FORMS: &[(&str, NumberForm)] = &[
 ];
 
 /// The members that may say what a text node prints.
-const TARGETS: [&str; 4] = ["variable", "macro", "term", "value"];
+const TARGETS: &[&str] = &["variable", "macro", "term", "value"];
 
 /// The one member that says what a text node prints; empty where there is not just one.
 fn named(node: &Value<'_>) -> &'static str {
     let mut named = "";
     for name in TARGETS {
-        if member(node, name).is_some() {
+        if member(node, *name).is_some() {
             if !named.is_empty() {
                 return "";
             }
-            named = name;
+            named = *name;
         }
     }
     named
@@ -76,9 +75,9 @@ const TEXT_MEMBERS: [&str; 13] = [
     "display",
 ];
 
-fn text_node(session: &mut Session, node: &Value<'_>) -> Node {
+fn text(session: &mut Session, node: &Value<'_>) -> Text {
     session.only(node, &TEXT_MEMBERS);
-    Node::Text(Text {
+    Text {
         target: target(session, node),
         look: TextLook {
             look: look(session, node),
@@ -86,7 +85,7 @@ fn text_node(session: &mut Session, node: &Value<'_>) -> Node {
             strip_periods: session.is_set(node, "strip_periods"),
             text_case: None,
         },
-    })
+    }
 }
 
 /// The members of a number node.
@@ -101,14 +100,14 @@ const NUMBER_MEMBERS: [&str; 7] = [
 ];
 
 /// The answer to a number or page variable.
-fn number_node(session: &mut Session, node: &Value<'_>) -> Node {
+fn number(session: &mut Session, node: &Value<'_>) -> Number {
     session.only(node, &NUMBER_MEMBERS);
-    Node::Number(Number {
+    Number {
         variable: numbered_of(session, node),
         form: session.word_or(node, "form", NUMBER_FORMS, NumberForm::Numeric),
         text_case: None,
         look: look(session, node),
-    })
+    }
 }
 
 /// The members of a label node.
@@ -124,12 +123,12 @@ const LABEL_MEMBERS: [&str; 8] = [
 ];
 
 /// The term of a variable.
-fn label_node(session: &mut Session, node: &Value<'_>) -> Node {
+fn label(session: &mut Session, node: &Value<'_>) -> Label {
     session.only(node, &LABEL_MEMBERS);
-    Node::Label(Label {
+    Label {
         variable: numbered_of(session, node),
         label: label_look(session, node),
-    })
+    }
 }
 
 /// The members of a date node.
@@ -149,32 +148,32 @@ const DATE_MEMBERS: [&str; 12] = [
 ];
 
 /// The answer to a date variable.
-fn date_node(session: &mut Session, node: &Value<'_>) -> Node {
+fn date(session: &mut Session, node: &Value<'_>) -> Date {
     session.only(node, &DATE_MEMBERS);
-    Node::Date(Date {
+    Date {
         variable: date_of(session, node),
         form: session.maybe_word(node, "form", DATE_FORMS),
-        parts: session.word_or(node, "parts", PARTS, DateParts::YearMonthDay),
-        own_parts: date_parts(session, node),
-        part_changes: part_changes(session, node),
+        parts: session.word_or(node, "parts", DATE_PARTS, DateParts::YearMonthDay),
+        own_parts: list_of(session, node, "date_parts"),
+        part_changes: list_of(session, node, "part_changes"),
         delimiter: session.maybe_owned_text(node, "delimiter"),
         text_case: None,
         merges_ranges: session.is_set(node, "merges_ranges"),
         look: look(session, node),
-    })
+    }
 }
 
 /// A node of this kind, which has no nodes in it.
 pub(crate) fn leaf(session: &mut Session, node: &Value<'_>, kind: &str) -> Node {
     match kind {
-        "number" => number_node(session, node),
-        "label" => label_node(session, node),
-        "date" => date_node(session, node),
+        "number" => Node::Number(number(session, node)),
+        "label" => Node::Label(label(session, node)),
+        "date" => Node::Date(date(session, node)),
         _ => {
             if kind != "text" {
                 session.want("node", "a kind of nodes");
             }
-            text_node(session, node)
+            Node::Text(text(session, node))
         }
     }
 }

@@ -1,46 +1,15 @@
 //! How characters and nodes look.
 
 use cases::{Session, Value, member, word_of};
+use csl_words::{DECORATIONS, DISPLAYS, FONT_STYLES, FONT_VARIANTS, FONT_WEIGHTS};
 use rendering_style::Look;
-use rendering_taxonomy::{
-    Display, FontStyle, FontVariant, FontWeight, Formatting, FormattingChanges, TextDecoration,
-    VerticalAlign,
-};
+use rendering_taxonomy::{Formatting, FormattingChanges, VerticalAlign};
 
-const STYLES: &[(&str, FontStyle)] = &[
-    ("normal", FontStyle::Normal),
-    ("italic", FontStyle::Italic),
-    ("oblique", FontStyle::Oblique),
-];
-
-const VARIANTS: &[(&str, FontVariant)] = &[
-    ("normal", FontVariant::Normal),
-    ("small-caps", FontVariant::SmallCaps),
-];
-
-const WEIGHTS: &[(&str, FontWeight)] = &[
-    ("normal", FontWeight::Normal),
-    ("bold", FontWeight::Bold),
-    ("light", FontWeight::Light),
-];
-
-const DECORATIONS: &[(&str, TextDecoration)] = &[
-    ("none", TextDecoration::None),
-    ("underline", TextDecoration::Underline),
-];
-
-const ALIGNS: &[(&str, VerticalAlign)] = &[
+/// Where characters stand; the word `none` is `baseline` in CSL.
+const ALIGNMENTS: &[(&str, VerticalAlign)] = &[
     ("none", VerticalAlign::None),
     ("sup", VerticalAlign::Sup),
     ("sub", VerticalAlign::Sub),
-];
-
-/// Where an element stands.
-pub const DISPLAYS: &[(&str, Display)] = &[
-    ("block", Display::Block),
-    ("left-margin", Display::LeftMargin),
-    ("right-inline", Display::RightInline),
-    ("indent", Display::Indent),
 ];
 
 /// The members of a formatting.
@@ -59,11 +28,11 @@ pub(crate) fn changes(session: &mut Session, object: &Value<'_>) -> FormattingCh
     };
     session.only(given, &MEMBERS);
     FormattingChanges {
-        font_style: session.maybe_word(given, "font_style", STYLES),
-        font_variant: session.maybe_word(given, "font_variant", VARIANTS),
-        font_weight: session.maybe_word(given, "font_weight", WEIGHTS),
+        font_style: session.maybe_word(given, "font_style", FONT_STYLES),
+        font_variant: session.maybe_word(given, "font_variant", FONT_VARIANTS),
+        font_weight: session.maybe_word(given, "font_weight", FONT_WEIGHTS),
         text_decoration: session.maybe_word(given, "text_decoration", DECORATIONS),
-        vertical_align: session.maybe_word(given, "vertical_align", ALIGNS),
+        vertical_align: session.maybe_word(given, "vertical_align", ALIGNMENTS),
     }
 }
 
@@ -111,21 +80,21 @@ pub fn put_formatting(session: &mut Session, formatting: Formatting) {
     put_word(
         session,
         "font_style",
-        STYLES,
+        FONT_STYLES,
         plain.font_style,
         formatting.font_style,
     );
     put_word(
         session,
         "font_variant",
-        VARIANTS,
+        FONT_VARIANTS,
         plain.font_variant,
         formatting.font_variant,
     );
     put_word(
         session,
         "font_weight",
-        WEIGHTS,
+        FONT_WEIGHTS,
         plain.font_weight,
         formatting.font_weight,
     );
@@ -139,7 +108,7 @@ pub fn put_formatting(session: &mut Session, formatting: Formatting) {
     put_word(
         session,
         "vertical_align",
-        ALIGNS,
+        ALIGNMENTS,
         plain.vertical_align,
         formatting.vertical_align,
     );

@@ -2,28 +2,8 @@
 
 use crate::styles::members::maybe_count;
 use cases::{Session, Value, member};
+use csl_words::{ANDS, DELIMITERS, NAME_FORMS, SORT_ORDERS};
 use rendering_style::NameOptions;
-use rendering_taxonomy::{DelimiterBehavior, NameAnd, NameAsSortOrder, NameForm};
-
-const ANDS: &[(&str, NameAnd)] = &[("text", NameAnd::Text), ("symbol", NameAnd::Symbol)];
-
-const BEHAVIORS: &[(&str, DelimiterBehavior)] = &[
-    ("contextual", DelimiterBehavior::Contextual),
-    ("always", DelimiterBehavior::Always),
-    ("never", DelimiterBehavior::Never),
-    ("after-inverted-name", DelimiterBehavior::AfterInvertedName),
-];
-
-const FORMS: &[(&str, NameForm)] = &[
-    ("long", NameForm::Long),
-    ("short", NameForm::Short),
-    ("count", NameForm::Count),
-];
-
-const ORDERS: &[(&str, NameAsSortOrder)] = &[
-    ("first", NameAsSortOrder::First),
-    ("all", NameAsSortOrder::All),
-];
 
 /// The members of options of names, and of a name, whose options stand beside them.
 pub(crate) const NAME_MEMBERS: [&str; 19] = [
@@ -53,18 +33,18 @@ pub(crate) fn options(session: &mut Session, given: &Value<'_>) -> NameOptions {
     NameOptions {
         and: session.maybe_word(given, "and", ANDS),
         delimiter: session.maybe_owned_text(given, "delimiter"),
-        delimiter_precedes_last: session.maybe_word(given, "delimiter_precedes_last", BEHAVIORS),
+        delimiter_precedes_last: session.maybe_word(given, "delimiter_precedes_last", DELIMITERS),
         et_al_min: maybe_count(session, given, "et_al_min"),
         et_al_use_first: maybe_count(session, given, "et_al_use_first"),
         et_al_subsequent_min: maybe_count(session, given, "et_al_subsequent_min"),
         et_al_subsequent_use_first: maybe_count(session, given, "et_al_subsequent_use_first"),
         et_al_use_last: session.maybe_bool(given, "et_al_use_last"),
-        form: session.maybe_word(given, "form", FORMS),
+        form: session.maybe_word(given, "form", NAME_FORMS),
         initialize_with: session.maybe_owned_text(given, "initialize_with"),
-        name_as_sort_order: session.maybe_word(given, "name_as_sort_order", ORDERS),
+        name_as_sort_order: session.maybe_word(given, "name_as_sort_order", SORT_ORDERS),
         sort_separator: session.maybe_owned_text(given, "sort_separator"),
         demote_non_dropping_particle: session.maybe_bool(given, "demote"),
-        delimiter_precedes_et_al: session.maybe_word(given, "delimiter_precedes_et_al", BEHAVIORS),
+        delimiter_precedes_et_al: session.maybe_word(given, "delimiter_precedes_et_al", DELIMITERS),
         initialize: None,
         initialize_with_hyphen: session.maybe_bool(given, "initialize_with_hyphen"),
         splits_initials: None,

@@ -5,7 +5,7 @@ use crate::styles::name_options::{NAME_MEMBERS, options};
 use cases::{Session, Value, member};
 use csl_words::{NAME_VARIABLES, PLURALS, TERM_FORMS};
 use rendering_style::{EtAl, LabelLook, Name, Names};
-use rendering_taxonomy::{EtAlTerm, LabelPluralize, NameVariable, TermForm};
+use rendering_taxonomy::{EtAlTerm, LabelPluralize, TermForm};
 
 const ET_ALS: &[(&str, EtAlTerm)] = &[
     ("et-al", EtAlTerm::EtAl),
@@ -70,15 +70,6 @@ fn et_al(session: &mut Session, node: &Value<'_>) -> Option<EtAl> {
     })
 }
 
-/// The variables of names: one or more.
-fn variables(session: &mut Session, node: &Value<'_>) -> Vec<NameVariable> {
-    let variables = session.words(node, "variables", NAME_VARIABLES);
-    if variables.is_empty() {
-        session.want("variables", "a list of one or more");
-    }
-    variables
-}
-
 /// The members of a names node.
 const MEMBERS: [&str; 12] = [
     "node",
@@ -98,8 +89,12 @@ const MEMBERS: [&str; 12] = [
 /// The people of variables.
 pub(crate) fn names_of(session: &mut Session, node: &Value<'_>) -> Names {
     session.only(node, &MEMBERS);
+    let variables = session.words(node, "variables", NAME_VARIABLES);
+    if variables.is_empty() {
+        session.want("variables", "a list of one or more");
+    }
     Names {
-        variables: variables(session, node),
+        variables,
         name: name(session, node),
         et_al: et_al(session, node),
         label: label(session, node),

@@ -4,7 +4,7 @@ use crate::styles::conditions::condition;
 use crate::styles::leaves::leaf;
 use crate::styles::looks::look;
 use crate::styles::names::names_of;
-use cases::{Session, Value, member};
+use cases::{Session, Value};
 use rendering_style::{ChooseBranch, Group, Node};
 
 /// How deep nodes may nest.
@@ -33,39 +33,53 @@ fn nodes(session: &mut Session, object: &Value<'_>, name: &'static str, depth: u
     nodes
 }
 
+/// A node, in which nodes nest at most so deep.
 #[cycle(reading)]
 fn node(session: &mut Session, given: &Value<'_>, depth: u32) -> Node {
     match session.text(given, "node") {
-        "names" => names_node(session, given, depth),
-        "choose" => choose_node(session, given, depth),
-        "group" => group_node(session, given, depth),
+        "names" => {
+            let names = names_of(session, given);
+            Node::Names(names, nodes(session, given, "substitute", depth))
+        }
+        "choose" => {
+            session.only(given, &["node", "branches", "otherwise"]);
+            let branches = branches(session, given, depth);
+            Node::Choose(branches, nodes(session, given, "otherwise", depth))
+        }
+        "group" => {
+            let group = group(session, given);
+            Node::Group(group, nodes(session, given, "nodes", depth))
+        }
         kind => leaf(session, given, kind),
     }
 }
 
-/// Names, and their substitute.
-#[cycle(reading)]
-fn names_node(session: &mut Session, given: &Value<'_>, depth: u32) -> Node {
-    let names = names_of(session, given);
-    Node::Names(names, nodes(session, given, "substitute", depth))
-}
+/// The members of a group.
+const GROUP_MEMBERS: [&str; 7] = [
+    "node",
+    "nodes",
+    "delimiter",
+    "formatting",
+    "prefix",
+    "suffix",
+    "display",
+];
 
-/// Branches, and what stands where none is taken.
-#[cycle(reading)]
-fn choose_node(session: &mut Session, given: &Value<'_>, depth: u32) -> Node {
-    session.only(given, &["node", "branches", "otherwise"]);
-    let branches = branches(session, given, depth);
-    Node::Choose(branches, nodes(session, given, "otherwise", depth))
+/// A group, without its nodes.
+fn group(session: &mut Session, given: &Value<'_>) -> Group {
+    session.only(given, &GROUP_MEMBERS);
+    Group {
+        delimiter: session.maybe_owned_text(given, "delimiter"),
+        look: look(session, given),
+    }
 }
 
 /// The branches of a choose.
 #[cycle(reading)]
 fn branches(session: &mut Session, given: &Value<'_>, depth: u32) -> Vec<ChooseBranch> {
     let mut branches = Vec::new(session.alloc);
-    if member(given, "branches").is_none() {
-        session.want("branches", "a list");
-    }
     let Some(items) = session.items(given, "branches") else {
+        session.want("branches", "a list");
         return branches;
     };
     for item in items {
@@ -98,25 +112,4 @@ fn branch(session: &mut Session, given: &Value<'_>, depth: u32) -> ChooseBranch 
         condition,
         children,
     }
-}
-
-/// The members of a group.
-const GROUP_MEMBERS: [&str; 7] = [
-    "node",
-    "nodes",
-    "delimiter",
-    "formatting",
-    "prefix",
-    "suffix",
-    "display",
-];
-
-#[cycle(reading)]
-fn group_node(session: &mut Session, given: &Value<'_>, depth: u32) -> Node {
-    session.only(given, &GROUP_MEMBERS);
-    let group = Group {
-        delimiter: session.maybe_owned_text(given, "delimiter"),
-        look: look(session, given),
-    };
-    Node::Group(group, nodes(session, given, "nodes", depth))
 }

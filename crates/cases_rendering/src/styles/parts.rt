@@ -5,74 +5,37 @@ use crate::styles::members::{maybe_count, short_or};
 use crate::styles::name_options::name_options;
 use crate::styles::nodes::nodes_of;
 use cases::{Session, Value, member};
+use csl_words::{COLLAPSES, GIVEN_NAME_RULES, SECOND_FIELDS, SUBSTITUTE_RULES};
 use rendering_style::{Bibliography, Citation, Layout};
-use rendering_taxonomy::{
-    Collapse, DisambiguationRule, SecondFieldAlign, SubsequentAuthorSubstituteRule,
-};
+use rendering_taxonomy::{DisambiguationRule, FormattingChanges, SubsequentAuthorSubstituteRule};
 use std::num::NonZeroI16;
-
-const RULES: &[(&str, DisambiguationRule)] = &[
-    ("by-cite", DisambiguationRule::ByCite),
-    ("all-names", DisambiguationRule::AllNames),
-    (
-        "all-names-with-initials",
-        DisambiguationRule::AllNamesWithInitials,
-    ),
-    ("primary-name", DisambiguationRule::PrimaryName),
-    (
-        "primary-name-with-initials",
-        DisambiguationRule::PrimaryNameWithInitials,
-    ),
-];
-
-const COLLAPSES: &[(&str, Collapse)] = &[
-    ("citation-number", Collapse::CitationNumber),
-    ("year", Collapse::Year),
-    ("year-suffix", Collapse::YearSuffix),
-    ("year-suffix-ranged", Collapse::YearSuffixRanged),
-];
-
-/// The words of where the second field of an item stands.
-pub const ALIGNS: &[(&str, SecondFieldAlign)] = &[
-    ("margin", SecondFieldAlign::Margin),
-    ("flush", SecondFieldAlign::Flush),
-];
-
-const SUBSTITUTE_RULES: &[(&str, SubsequentAuthorSubstituteRule)] = &[
-    ("complete-all", SubsequentAuthorSubstituteRule::CompleteAll),
-    (
-        "complete-each",
-        SubsequentAuthorSubstituteRule::CompleteEach,
-    ),
-    ("partial-each", SubsequentAuthorSubstituteRule::PartialEach),
-    (
-        "partial-first",
-        SubsequentAuthorSubstituteRule::PartialFirst,
-    ),
-];
 
 /// The members of a layout.
 const LAYOUT_MEMBERS: [&str; 5] = ["nodes", "formatting", "prefix", "suffix", "delimiter"];
 
 /// The layout of the member `layout`; an empty one where it is left out.
 fn layout(session: &mut Session, object: &Value<'_>) -> Layout {
-    match member(object, "layout") {
-        Some(given) => {
-            session.only(given, &LAYOUT_MEMBERS);
-            layout_in(session, given)
-        }
-        None => layout_in(session, &Value::Null),
-    }
-}
-
-/// The layout of an object.
-fn layout_in(session: &mut Session, given: &Value<'_>) -> Layout {
+    let Some(given) = member(object, "layout") else {
+        return empty_layout(session);
+    };
+    session.only(given, &LAYOUT_MEMBERS);
     Layout {
         formatting: changes(session, given),
         prefix: session.maybe_owned_text(given, "prefix"),
         suffix: session.maybe_owned_text(given, "suffix"),
         delimiter: session.maybe_owned_text(given, "delimiter"),
         nodes: nodes_of(session, given, "nodes"),
+    }
+}
+
+/// A layout without nodes, for which nothing is specified.
+fn empty_layout(session: &mut Session) -> Layout {
+    Layout {
+        formatting: FormattingChanges::default(),
+        prefix: None,
+        suffix: None,
+        delimiter: None,
+        nodes: Vec::new(session.alloc),
     }
 }
 
@@ -93,21 +56,19 @@ const CITATION_MEMBERS: [&str; 11] = [
 
 /// How cites are printed: what the member `citation` says of them, if it is not left out.
 pub(crate) fn citation(session: &mut Session, style: &Value<'_>) -> Citation {
-    match member(style, "citation") {
-        Some(given) => {
-            session.only(given, &CITATION_MEMBERS);
-            citation_in(session, given)
-        }
-        None => citation_in(session, &Value::Null),
-    }
-}
-
-/// How an object says that cites are printed.
-fn citation_in(session: &mut Session, given: &Value<'_>) -> Citation {
+    let Some(given) = member(style, "citation") else {
+        return Citation::new(empty_layout(session));
+    };
+    session.only(given, &CITATION_MEMBERS);
     Citation {
         add_names: session.is_set(given, "add_names"),
         add_givenname: session.is_set(given, "add_givenname"),
-        givenname_rule: session.word_or(given, "givenname_rule", RULES, DisambiguationRule::ByCite),
+        givenname_rule: session.word_or(
+            given,
+            "givenname_rule",
+            GIVEN_NAME_RULES,
+            DisambiguationRule::ByCite,
+        ),
         add_year_suffix: session.is_set(given, "add_year_suffix"),
         collapse: session.maybe_word(given, "collapse", COLLAPSES),
         near_note_distance: maybe_count(session, given, "near_note_distance").unwrap_or(5),
@@ -123,6 +84,7 @@ fn citation_in(session: &mut Session, given: &Value<'_>) -> Citation {
         raises_names_first: false,
         gathers_by_text: false,
         locators_end_runs: false,
+        repeats_no_years: false,
     }
 }
 
@@ -159,7 +121,7 @@ pub(crate) fn maybe_bibliography(session: &mut Session, style: &Value<'_>) -> Op
     };
     Some(Bibliography {
         hanging_indent: session.is_set(given, "hanging_indent"),
-        second_field_align: session.maybe_word(given, "second_field_align", ALIGNS),
+        second_field_align: session.maybe_word(given, "second_field_align", SECOND_FIELDS),
         line_spacing,
         entry_spacing: short_or(session, given, "entry_spacing", 1),
         subsequent_author_substitute_rule: session.word_or(

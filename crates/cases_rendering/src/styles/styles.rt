@@ -1,25 +1,14 @@
 //! Styles.
 
-use crate::styles::given_locales::{locales, maybe_code};
+use crate::lists::{ListItem, list_of};
+use crate::styles::given_locales::maybe_code;
 use crate::styles::name_options::name_options;
 use crate::styles::nodes::nodes_of;
 use crate::styles::parts::{citation, maybe_bibliography};
 use cases::{Refusal, Session, Value, member};
+use csl_words::{CATEGORIES, CLASSES};
 use rendering_style::{Macro, Style, StyleError, StyleParts};
-use rendering_taxonomy::{PageRule, StyleCategory, StyleClass};
-
-const CLASSES: &[(&str, StyleClass)] = &[
-    ("in-text", StyleClass::InText),
-    ("note", StyleClass::Note),
-];
-
-const CATEGORIES: &[(&str, StyleCategory)] = &[
-    ("author", StyleCategory::Author),
-    ("author-date", StyleCategory::AuthorDate),
-    ("label", StyleCategory::Label),
-    ("note", StyleCategory::Note),
-    ("numeric", StyleCategory::Numeric),
-];
+use rendering_taxonomy::{PageRule, StyleClass};
 
 /// How the texts of a page meet.
 pub const PAGE_RULES: &[(&str, PageRule)] = &[
@@ -27,21 +16,15 @@ pub const PAGE_RULES: &[(&str, PageRule)] = &[
     ("joined", PageRule::Joined),
 ];
 
-/// The macros of a style.
-fn macros(session: &mut Session, style: &Value<'_>) -> Vec<Macro> {
-    let mut macros = Vec::new(session.alloc);
-    let Some(items) = session.items(style, "macros") else {
-        return macros;
-    };
-    for item in items {
+/// A macro of a style.
+impl ListItem for Macro {
+    fn given(session: &mut Session, item: &Value<'_>) -> Macro {
         session.only(item, &["name", "nodes"]);
-        let read = Macro {
+        Macro {
             name: session.owned_text(item, "name"),
             nodes: nodes_of(session, item, "nodes"),
-        };
-        session.push(&mut macros, read);
+        }
     }
-    macros
 }
 
 /// The members of a style.
@@ -57,22 +40,29 @@ const MEMBERS: [&str; 9] = [
     "bibliography",
 ];
 
-/// What a style is made of.
-pub fn parts_of(session: &mut Session, style: &Value<'_>) -> StyleParts {
-    session.only(style, &MEMBERS);
-    StyleParts {
-        class: session.word_or(style, "class", CLASSES, StyleClass::InText),
-        categories: session.words(style, "categories", CATEGORIES),
-        default_locale: maybe_code(session, style, "default_locale"),
+/// The style of a value; none where it is refused, and the answer then says why.
+pub fn accepted(session: &mut Session, given: &Value<'_>) -> Option<Style> {
+    session.only(given, &MEMBERS);
+    let parts = StyleParts {
+        class: session.word_or(given, "class", CLASSES, StyleClass::InText),
+        categories: session.words(given, "categories", CATEGORIES),
+        default_locale: maybe_code(session, given, "default_locale"),
         page_ranges: None,
-        page_rule: session.word_or(style, "page_rule", PAGE_RULES, PageRule::AsWritten),
-        name_options: name_options(session, style),
-        locales: locales(session, style, "locales"),
-        macros: macros(session, style),
-        bibliography: maybe_bibliography(session, style),
-        citation: citation(session, style),
+        page_rule: session.word_or(given, "page_rule", PAGE_RULES, PageRule::AsWritten),
+        name_options: name_options(session, given),
+        locales: list_of(session, given, "locales"),
+        macros: list_of(session, given, "macros"),
+        bibliography: maybe_bibliography(session, given),
+        citation: citation(session, given),
         citation_sort: Vec::new(session.alloc),
         bibliography_sort: Vec::new(session.alloc),
+    };
+    match Style::new(session.alloc, parts) {
+        Ok(style) => Some(style),
+        Err(error) => {
+            put_style_error(session, error);
+            None
+        }
     }
 }
 
@@ -82,18 +72,6 @@ pub fn style_of(session: &mut Session, case: &Value<'_>) -> Option<Style> {
         Some(given) => accepted(session, given),
         None => {
             session.want("style", "a style");
-            None
-        }
-    }
-}
-
-/// The style of a value; none where it is refused, and the answer then says why.
-pub fn accepted(session: &mut Session, given: &Value<'_>) -> Option<Style> {
-    let parts = parts_of(session, given);
-    match Style::new(session.alloc, parts) {
-        Ok(style) => Some(style),
-        Err(error) => {
-            put_style_error(session, error);
             None
         }
     }

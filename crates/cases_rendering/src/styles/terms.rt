@@ -21,47 +21,37 @@ pub fn locator_word(label: Locator) -> &'static str {
     }
 }
 
-/// The name in CSL of a term of words of its own: cases write a hyphen for each space.
+/// The terms whose names have spaces in CSL, for which cases write hyphens.
+const NAMES_WITH_SPACES: &[(&str, &str)] = &[
+    ("and-others", "and others"),
+    ("available-at", "available at"),
+    ("in-press", "in press"),
+    ("no-date", "no date"),
+    ("presented-at", "presented at"),
+];
+
+/// The name in CSL of a term of words of its own.
 fn name_in_csl(word: &str) -> &str {
-    match word {
-        "and-others" => "and others",
-        "available-at" => "available at",
-        "in-press" => "in press",
-        "no-date" => "no date",
-        "presented-at" => "presented at",
-        _ => word,
+    match value_of(NAMES_WITH_SPACES, word) {
+        Some(name) => name,
+        None => word,
     }
 }
 
-/// The term of a word that is no variable, no label and no kind.
-fn other(word: &str) -> Option<Term> {
+/// The term of a word: of a variable, of a label, of a kind, or of words of its own.
+fn term(word: &str) -> Option<Term> {
+    if let Some(variable) = any(word) {
+        return Some(Term::Variable(variable));
+    }
+    if let Some(label) = locator(word) {
+        return Some(Term::Locator(label));
+    }
+    if let Some(kind) = value_of(KINDS, word) {
+        return Some(Term::Kind(kind));
+    }
     match value_of(OTHER_TERMS, name_in_csl(word)) {
         Some(other) => Some(Term::Other(other)),
         None => value_of(DATE_TERMS, word),
-    }
-}
-
-/// The term of a word that is no variable and no label.
-fn unlabelled(word: &str) -> Option<Term> {
-    match value_of(KINDS, word) {
-        Some(kind) => Some(Term::Kind(kind)),
-        None => other(word),
-    }
-}
-
-/// The term of a word that is no variable.
-fn unanswered(word: &str) -> Option<Term> {
-    match locator(word) {
-        Some(locator) => Some(Term::Locator(locator)),
-        None => unlabelled(word),
-    }
-}
-
-/// The term of a word.
-fn term(word: &str) -> Option<Term> {
-    match any(word) {
-        Some(variable) => Some(Term::Variable(variable)),
-        None => unanswered(word),
     }
 }
 

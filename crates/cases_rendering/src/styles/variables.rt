@@ -4,16 +4,21 @@ use cases::{Session, Value, value_of};
 use csl_words::{DATE_VARIABLES, NAME_VARIABLES, NUMBER_VARIABLES, TEXT_VARIABLES};
 use rendering_taxonomy::{DateVariable, Variable};
 
-/// The name in CSL of a variable whose answer is a text: cases write all names in small letters.
+/// The variables whose names CSL writes in capitals, and cases in small letters as all names.
+const NAMES_IN_CAPITALS: &[(&str, &str)] = &[
+    ("doi", "DOI"),
+    ("isbn", "ISBN"),
+    ("issn", "ISSN"),
+    ("pmcid", "PMCID"),
+    ("pmid", "PMID"),
+    ("url", "URL"),
+];
+
+/// The name in CSL of a variable whose answer is a text.
 fn name_in_csl(word: &str) -> &str {
-    match word {
-        "doi" => "DOI",
-        "isbn" => "ISBN",
-        "issn" => "ISSN",
-        "pmcid" => "PMCID",
-        "pmid" => "PMID",
-        "url" => "URL",
-        _ => word,
+    match value_of(NAMES_IN_CAPITALS, word) {
+        Some(name) => name,
+        None => word,
     }
 }
 
@@ -25,17 +30,15 @@ pub(crate) fn printed(word: &str) -> Option<Variable> {
     }
 }
 
-/// The variable of a word whose answer is people or a date.
-fn people_or_date(word: &str) -> Option<Variable> {
+/// The variable of a word.
+pub(crate) fn any(word: &str) -> Option<Variable> {
+    if let Some(variable) = printed(word) {
+        return Some(variable);
+    }
     match value_of(NAME_VARIABLES, word) {
         Some(name) => Some(Variable::Name(name)),
         None => value_of(DATE_VARIABLES, word).map(Variable::Date),
     }
-}
-
-/// The variable of a word.
-pub(crate) fn any(word: &str) -> Option<Variable> {
-    printed(word).or(people_or_date(word))
 }
 
 /// The number or page variable of a node.

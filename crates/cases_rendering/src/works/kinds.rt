@@ -1,7 +1,7 @@
 //! Of which kinds an entry is to a style.
 
-use crate::works::given_entries::entry_member;
 use cases::{Session, Value, member};
+use cases_literature::entry_member;
 use csl_words::KINDS;
 use literature::Entry;
 use rendering_entries::{EntryLike, are_one_entry};
@@ -11,23 +11,14 @@ use std::borrow::CowStr;
 /// another one where there is one.
 pub(crate) fn answer(session: &mut Session, case: &Value<'_>) {
     session.only(case, &["case", "name", "entry", "other"]);
-    if let Some(entry) = entry_member(session, case, "entry") {
-        put_all(session, case, &*entry);
-    }
-}
-
-/// Writes what is asked of the entry.
-fn put_all(session: &mut Session, case: &Value<'_>, entry: &Entry) {
-    put_answers(session, entry);
+    let Some(entry) = entry_member(session, case, "entry") else {
+        return;
+    };
+    put_answers(session, &*entry);
     if member(case, "other").is_some() {
-        put_compared(session, case, entry);
-    }
-}
-
-/// Writes whether the entry is equal to the other one.
-fn put_compared(session: &mut Session, case: &Value<'_>, entry: &Entry) {
-    if let Some(other) = entry_member(session, case, "other") {
-        session.put_bool("is_other", are_one_entry(entry, &*other));
+        if let Some(other) = entry_member(session, case, "other") {
+            session.put_bool("is_other", are_one_entry(&*entry, &*other));
+        }
     }
 }
 

@@ -21,4 +21,5 @@ returns c = λ j. record {
   raises_names_first = c.raises_names_first.ensures j;
   gathers_by_text = true;
   locators_end_runs = c.args.prints_locators;
+  repeats_no_years = true;
 }

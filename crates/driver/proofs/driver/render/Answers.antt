@@ -3,7 +3,7 @@ use Rattle.std.specs.Option.{option_map}
 use Rattle.std.proofs.lemmas.List.{length-map}
 use Rattle.std.proofs.lemmas.List.FromFn.{length-map-range_with_len}
 use Rattle.rendering_context.specs.Views.{state_view}
-use Rattle.rendering_tree.specs.Trees.{Children}
+use Rattle.driver_bibliography.specs.Substitution.{Printed}
 use Rattle.driver.specs.FinalPrints.{first_listed, listed_view}
 use Rattle.driver.specs.Listing.{bibliography_from, item_listed, key_printed}
 use Rattle.driver.specs.Printing.{document_finals, entries_listed}
@@ -44,7 +44,7 @@ returns-clause-rendered g c = λ index.
     let ls = entries_listed answers c.deref.result.now c.deref-2.result.now in
     let listed = (λ k. entries_listed answers (c.deref.ensures.value k) (c.deref-2.ensures.value k)) ∙ c.in_ok-citations.ensures.listed index in
     let listing = c.in_ok-bibliography.ensures.bibliography
-    ∙ ap (λ (ts : List Children). option_map (λ b. bibliography_from b ts) x.style.bibliography) (made_are (item_listed x) fs (length c.args.entry_states.states.items) ls c.args.order.now listed c.requires.order) in
+    ∙ ap (λ (ts : List Printed). option_map (λ b. bibliography_from b ts) x.style.bibliography) (made_are (item_listed x) fs (length c.args.entry_states.states.items) ls c.args.order.now listed c.requires.order) in
     λ k. record { bibliography = listing k; citations = c.in_ok-citations.ensures.citations index k }
 
 pub returns-clause-keys : goal.returns-clause-keys

@@ -13,8 +13,8 @@ pub returns-in-Some : goal.returns-in-Some
 returns-in-Some c =
     let k = citation_layout_view c.args.style.now in
     let bs = blocks_view c.args.blocks.now in
-    let years : years_collapsed k c.in-Some.mode bs ≡ collapsed k c.args.mode bs = search rules in
+    let years : years_collapsed k k.repeats_no_years c.in-Some.mode bs ≡ collapsed k c.args.mode bs = search rules in
     IfOk-weaker c.collapse_years.result
-    (λ (v : Vec Arranged Global). (s : Citation) → map (arranged_view s) v.items ≡ years_collapsed s c.in-Some.mode bs)
+    (λ (v : Vec Arranged Global). (s : Citation) → map (arranged_view s) v.items ≡ years_collapsed s k.repeats_no_years c.in-Some.mode bs)
     (λ (v : Vec Arranged Global). map (arranged_view k) v.items ≡ collapsed k c.args.mode bs)
     (λ v is. is k ∙ years) c.collapse_years.ensures

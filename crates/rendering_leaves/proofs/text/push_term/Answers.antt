@@ -1,4 +1,4 @@
-use Rattle.std.proofs.Common.{[], ◌∷◌, ◌∙◌}
+use Rattle.std.proofs.Common.{[], ◌∷◌, ◌∙◌, None}
 use Rattle.std.proofs.lemmas.Result.{on_ok_weaker}
 use Rattle.rendering_context.specs.Views.{context_view}
 use Rattle.rendering_leaves.specs.Parts.{in_text}
@@ -17,5 +17,5 @@ returns c = λ a.
     let look = text_look_view c.args.look.now in
     on_ok_weaker c.append_text.result
     (λ e. append-page ctx (text_pieces ctx s [] (of_term c.args.term c.args.form c.args.plural) look) c.args.state.now _ _ c.state.view_is
-    (e ∙ (λ i. append_pieces ctx.quotes (in_text ctx s look (normal (text_manner s.manner look) (c.term_text-text.ensures i) ∷ [])) c.state.inside.page)))
+    (e ∙ (λ i. append_pieces ctx.quotes (in_text ctx s None look (normal (text_manner s.manner look) (c.term_text-text.ensures i) ∷ [])) c.state.inside.page)))
     (c.append_text.ensures a)

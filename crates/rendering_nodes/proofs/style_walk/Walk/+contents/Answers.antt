@@ -117,7 +117,7 @@ push_tried-returns-clause-state g t c =
     let s = setting_view c.args.setting.now in
     let x = open_node c.args.levels (macros_of c.args.self.now) (node_view c.args.node.now) in
     on_ok_weaker c.accept.result
-    (substitute_tried k (names_parts_view c.args.names.now) s x c.admits.result c.args.state.now c.admits.new.state c.in_ok-done.done c.accept.new.state
+    (substitute_tried k (names_parts_view c.args.outer.now) s x c.admits.result c.args.state.now c.admits.new.state c.in_ok-done.done c.accept.new.state
     (c.admits.ensures.admitted k s x c.requires) c.if-not-admits.false (c.admits.ensures.state k s x c.requires) c.in_ok-done.ensures)
     (c.accept.ensures.state a)
 
@@ -216,7 +216,7 @@ push_choose-push_all-requires g t c =
 pub tried-returns : goal.tried-returns
 tried-returns g t c =
     let a = g.E.EntryLike.answers c.args.entry.now in
-    tried_by (walk_context a c.args.self.now) (names_parts_view c.args.names.now) (setting_view c.args.setting.now) (open_node c.args.levels (macros_of c.args.self.now) (node_view c.args.node.now))
+    tried_by (walk_context a c.args.self.now) (names_parts_view c.args.outer.now) (setting_view c.args.setting.now) (open_node c.args.levels (macros_of c.args.self.now) (node_view c.args.node.now))
     c.args.state.now c.in_ok-done.done c.begin_bare.new.state c.push_node.new.state
     c.in_ok-done.ensures (c.in_ok-begin_bare.ensures a) c.in_ok-push_node.ensures
 
@@ -260,7 +260,7 @@ push_first-loop-node-preserved g t c =
     let k = walk_context (g.E.EntryLike.answers c.args.entry.now) c.args.self.now in
     let s = setting_view c.args.setting.now in
     let f = open_node c.args.levels (macros_of c.args.self.now) in (
-      substitute_more k (names_parts_view c.args.names.now) s f c.args.substitute.now c.loop-node.node-index c.node-item.result c.in_ok-push_substitute_node.field-0 c.loop-node.state c.push_substitute_node.new.state _
+      substitute_more k (names_parts_view c.args.outer.now) s f c.args.substitute.now c.loop-node.node-index c.node-item.result c.in_ok-push_substitute_node.field-0 c.loop-node.state c.push_substitute_node.new.state _
           c.loop-node-test.true c.node-item.is c.in_ok-push_substitute_node.ensures.printed c.if-branch.false c.in_ok-push_substitute_node.ensures.state c.loop-node.invariant.0,
       c.take_first-finding.ensures.others k s (f (node_view c.node-item.result)) (each_node f (nodes_view (drop (c.loop-node.node-index + 1) c.args.substitute.now)))
           (known_more k s.form c.loop-node.rest f c.args.substitute.now c.loop-node.node-index c.node-item.result c.loop-node-test.true c.node-item.is c.loop-node.invariant.1),
@@ -362,14 +362,14 @@ push_tried-returns-then-not-admits-clause-printed g t c =
     let k = walk_context (g.E.EntryLike.answers c.args.entry.now) c.args.self.now in
     let s = setting_view c.args.setting.now in
     let x = open_node c.args.levels (macros_of c.args.self.now) (node_view c.args.node.now) in
-    is_substitute_passed k (names_parts_view c.args.names.now) s x c.admits.result c.args.state.now (c.admits.ensures.admitted k s x c.requires) c.if-not-admits.true
+    is_substitute_passed k (names_parts_view c.args.outer.now) s x c.admits.result c.args.state.now (c.admits.ensures.admitted k s x c.requires) c.if-not-admits.true
 
 pub push_tried-returns-then-not-admits-clause-state : goal.push_tried-returns-then-not-admits-clause-state
 push_tried-returns-then-not-admits-clause-state g t c =
     let k = walk_context (g.E.EntryLike.answers c.args.entry.now) c.args.self.now in
     let s = setting_view c.args.setting.now in
     let x = open_node c.args.levels (macros_of c.args.self.now) (node_view c.args.node.now) in
-    substitute_passed k (names_parts_view c.args.names.now) s x c.admits.result c.args.state.now c.admits.new.state (c.admits.ensures.admitted k s x c.requires) c.if-not-admits.true (c.admits.ensures.state k s x c.requires)
+    substitute_passed k (names_parts_view c.args.outer.now) s x c.admits.result c.args.state.now c.admits.new.state (c.admits.ensures.admitted k s x c.requires) c.if-not-admits.true (c.admits.ensures.state k s x c.requires)
 
 pub push_tried-tried-requires : goal.push_tried-tried-requires
 push_tried-tried-requires g t c =
@@ -382,6 +382,6 @@ push_tried-returns-clause-printed g t c =
     let s = setting_view c.args.setting.now in
     let x = open_node c.args.levels (macros_of c.args.self.now) (node_view c.args.node.now) in
     IfOk-weaker c.accept.result _ _
-    (λ b e. is_substitute_tried k (names_parts_view c.args.names.now) s x c.admits.result b c.args.state.now c.admits.new.state c.in_ok-done.done (c.admits.ensures.admitted k s x c.requires) c.if-not-admits.false
+    (λ b e. is_substitute_tried k (names_parts_view c.args.outer.now) s x c.admits.result b c.args.state.now c.admits.new.state c.in_ok-done.done (c.admits.ensures.admitted k s x c.requires) c.if-not-admits.false
     (c.admits.ensures.state k s x c.requires) c.in_ok-done.ensures e)
     c.accept.ensures.printed

@@ -66,6 +66,6 @@ invariant-push_all-loop-node g l =
 
 abbrev pub invariant-push_first-loop-node : goal.invariant-push_first-loop-node
 invariant-push_first-loop-node g l =
-    (first_substitute (walk_context (g.E.EntryLike.answers l.entry) l.self) (names_parts_view l.names) (setting_view l.setting) (each_node (open_node l.levels (macros_of l.self)) (nodes_view (drop l.node-index l.substitute))) l.state
-    ≡ first_substitute (walk_context (g.E.EntryLike.answers l.entry) l.self) (names_parts_view l.names) (setting_view l.setting) (each_node (open_node l.levels (macros_of l.self)) (nodes_view l.substitute)) l.initial.state)
+    (first_substitute (walk_context (g.E.EntryLike.answers l.entry) l.self) (names_parts_view l.outer) (setting_view l.setting) (each_node (open_node l.levels (macros_of l.self)) (nodes_view (drop l.node-index l.substitute))) l.state
+    ≡ first_substitute (walk_context (g.E.EntryLike.answers l.entry) l.self) (names_parts_view l.outer) (setting_view l.setting) (each_node (open_node l.levels (macros_of l.self)) (nodes_view l.substitute)) l.initial.state)
     × AreFound (walk_context (g.E.EntryLike.answers l.entry) l.self) (setting_view l.setting).form l.rest (each_node (open_node l.levels (macros_of l.self)) (nodes_view (drop l.node-index l.substitute)))

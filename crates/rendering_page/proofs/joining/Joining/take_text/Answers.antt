@@ -12,4 +12,4 @@ returns c =
     let rest = chars c.in-Some.field-0-1.now in
     let is : cs ≡ c.in-Some.first ∷ rest = sym c.as_str.ensures ∙ c.in-Some.ensures.chars in
     let none : c.args.self.now.is_text ≡ false = ap (λ (j : Joining). j.is_text) (sym c.self.view_is) ∙ c.if-self.false in
-    on_ok_weaker c.meet.result (λ e. text_begun c.args.inside c.args.formatting cs rest c.in-Some.first c.args.self.now c.meet.new.self is none e) (c.meet.ensures rest is)
+    on_ok_weaker c.begin.result (λ e. text_begun c.args.inside c.args.formatting cs rest c.in-Some.first c.args.self.now c.begin.new.self is none e) (c.begin.ensures rest is)
