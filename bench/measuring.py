@@ -34,14 +34,29 @@ def document(chance, keys):
     return "".join(lines)
 
 
-def peak_and_seconds(words):
-    """The peak memory in bytes and the seconds of one run. GNU time starts it, since what is started from here begins with the memory of Python."""
+def peak_and_seconds(words, path=os.devnull):
+    """The peak memory in bytes and the seconds of one run, whose output goes to a file. GNU time starts it, since what is started from here
+    begins with the memory of Python."""
     started = time.perf_counter()
-    ran = subprocess.run(["/usr/bin/time", "-f", "%M", *words], stdin=subprocess.DEVNULL, stdout=subprocess.DEVNULL, stderr=subprocess.PIPE, text=True)
+    with open(path, "wb") as out:
+        ran = subprocess.run(["/usr/bin/time", "-f", "%M", *words], stdin=subprocess.DEVNULL, stdout=out, stderr=subprocess.PIPE, text=True)
     seconds = time.perf_counter() - started
     if ran.returncode != 0:
         sys.exit(f"{words} ended with status {ran.returncode}: {ran.stderr}")
     return int(ran.stderr.split()[-1]) * 1024, seconds
+
+
+def least_processor_seconds(words, runs):
+    """The least processor time of so many runs, in seconds: that of the program and that of the system for it."""
+    least = math.inf
+    for _ in range(runs):
+        started = subprocess.Popen(words, stdin=subprocess.DEVNULL, stdout=subprocess.DEVNULL, stderr=subprocess.DEVNULL)
+        _, status, used = os.wait4(started.pid, 0)
+        started.returncode = os.waitstatus_to_exitcode(status)
+        if started.returncode != 0:
+            sys.exit(f"{words} ended with status {started.returncode}")
+        least = min(least, used.ru_utime + used.ru_stime)
+    return least
 
 
 def instructions(words, folder, given=None, inside=None, status=0):

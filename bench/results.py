@@ -96,6 +96,13 @@ DEEP = """## Deep and doubled texts
 each is).
 """
 
+MEMORY = """## Memory in proportion
+
+    bench/memory.py
+
+`cite author-date plain` on texts of which much is made by few bytes (`bench/memory.py` says what each is).
+"""
+
 CITE_CSL = """## Styles of CSL files
 
     bench/cite_csl.py
@@ -339,6 +346,17 @@ def deep_table(found):
     return "\n".join([DEEP, "| text | bytes | status | seconds | memory |", "|---|---|---|---|---|", *rows, "", measured(found), ""])
 
 
+def memory_table(found):
+    """The part of the page about memory in proportion."""
+    rows = [
+        f"| {row['text']} | {number(row['read'])} | {number(row['printed'])} | {row['seconds']} | {number(row['memory'])} "
+        f"| {row['memory'] / (row['read'] + row['printed']):.1f} | {row['wanted'] or ''} |"
+        for row in found["rows"]
+    ]
+    head = ["| text | bytes read | bytes printed | seconds | memory | times both | wanted, at most |", "|---|---|---|---|---|---|---|"]
+    return "\n".join([MEMORY, *head, *rows, "", measured(found), ""])
+
+
 def csl_table(found):
     """The part of the page about large files of CSL."""
     rows = [
@@ -369,9 +387,23 @@ def cite_csl_table(found):
         "|---|---|---|---|---|---|",
         *[row for _, row in sorted(rows)],
         "",
+        *reading_lines(found),
         measured(found),
         "",
     ])
+
+
+def reading_lines(found):
+    """The lines about what it takes to read a large style and a locale, where that was measured."""
+    if "reading" not in found:
+        return []
+    read = found["reading"]
+    style, locale = (number(size) for size in read["bytes"])
+    return [
+        f"On empty files, by a style of {style} bytes with a locale of {locale} bytes, the program takes {number(read['instructions'])} instructions "
+        f"and {read['milliseconds']} ms of the processor more than by a style of one node. Wanted: at most {found['wanted']['milliseconds']} ms.",
+        "",
+    ]
 
 
 def writer_table(found):
@@ -446,6 +478,7 @@ def write_pages():
     parts += [size_table(name, found[name]) for name in TABLES if name in found]
     parts += [writer_table(found["writer"])] if "writer" in found else []
     parts += [deep_table(found["deep"])] if "deep" in found else []
+    parts += [memory_table(found["memory"])] if "memory" in found else []
     parts += [csl_table(found["csl"])] if "csl" in found else []
     parts += [cite_csl_table(found["cite_csl"])] if "cite_csl" in found else []
     parts += [rendering_table(found["rendering"])] if "rendering" in found else []

@@ -12,8 +12,11 @@ pub mod NamingApart
 pub mod LendingBorrowed
 pub mod LendingFlat
 pub mod ResolvedEntries
+pub mod CatalogsResolved
+pub mod CatalogsEntries
 pub mod ReadingOnce
 pub mod ReadingJoined
+pub mod LoadingApart
 pub mod Lines
 pub mod OneLine
 pub mod WrittenBack

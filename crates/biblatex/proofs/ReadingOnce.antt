@@ -17,24 +17,17 @@ use Rattle.biblatex.specs.Naming.{names_from, is_below, first_repeated}
 use Rattle.biblatex_meaning.specs.Listed.{pushed, last_named}
 use Rattle.biblatex.specs.Bibliographies.{Indexed, indexed}
 use Rattle.biblatex.specs.Errors.{loaded_with_keys}
+use Rattle.biblatex.specs.Loading.{as_read, at_both, by_number, ends, with_names}
 use Rattle.biblatex_meaning.specs.Reading.{Refusal, refused_at, duplicate_key, Loaded, nothing_loaded, source_of, unless_known, entries_after, loaded, entry_read, UpToFault, one_read, up_to_fault}
 use Rattle.biblatex_meaning.proofs.ListedNames.{length_last, last_named-last}
 use Rattle.biblatex.proofs.NamingSources.{known_before}
 use Rattle.biblatex_reading.proofs.ReadingSteps.{moved_over}
-
--- entries that are read, each named by its key and its aliases
-abbrev pub as_read : List Source → List (At (List ℕ)) → Loaded
-as_read es keys = record { listed = record { entries = es; index = λ name. last_named name es }; keys = keys }
 
 -- entries that were read go last, one after the other, up to a key that has a meaning
 abbrev taken_in : Loaded → List Source → List (At (List ℕ)) → Result Loaded Refusal
 taken_in l [] keys = Ok l
 taken_in l (e ∷ es) [] = Ok l
 taken_in l (e ∷ es) (key ∷ keys) = unless_known (is_some (l.listed.index e.key)) l key e >>= λ m. taken_in m es keys
-
-abbrev pub ends : Option Refusal → Loaded → Result Loaded Refusal
-ends None l = Ok l
-ends (Some r) l = Err r
 
 -- first all entries up to a fault, then the fault
 in_two : (g : Glossary) (l : Loaded) (es : List (At Entry)) → entries_after g l es ≡ (let r = up_to_fault g es in taken_in l r.entries r.keys >>= ends r.fault)
@@ -54,16 +47,6 @@ in_two g l (e ∷ es) = by_fields (fields_of g e.v.fields) (λ m. in_two g m es)
         ≡ (let read = one_read e.v.key (r >>= λ fs. Ok (source_of e.v fs)) rest in taken_in l read.entries read.keys >>= ends read.fault)
     by_fields (Err x) more = refl
     by_fields (Ok fs) more = by_key fs (is_some (l.listed.index (text e.v.key.v))) more
-
--- the refusal of the key at a number, or all entries
-abbrev at_both : Option Source → Option (At (List ℕ)) → Loaded → Result Loaded Refusal
-at_both None key l = Ok l
-at_both (Some e) None l = Ok l
-at_both (Some e) (Some key) l = Err (refused_at key (duplicate_key e.key))
-
-abbrev pub by_number : Option ℕ → List Source → List (At (List ℕ)) → Result Loaded Refusal
-by_number None es keys = Ok (as_read es keys)
-by_number (Some n) es keys = at_both (slice_get es n) (slice_get keys n) (as_read es keys)
 
 at_end : {X : Type 0} (xs ys : List X) (y : X) → slice_get (xs ++ y ∷ ys) (length xs) ≡ Some y
 at_end [] ys y = refl
@@ -108,7 +91,7 @@ keys_long g (e ∷ es) = by_read (entry_read g e.v) (keys_long g es)
     by_read (Err x) long = refl
 
 -- what is read, by what was read up to a fault
-read_once : (g : Glossary) (es : List (At Entry)) (r : UpToFault) → r ≡ up_to_fault g es → loaded g es ≡ (by_number (first_repeated (names_from 0 r.entries) 0 r.entries) r.entries r.keys >>= ends r.fault)
+pub read_once : (g : Glossary) (es : List (At Entry)) (r : UpToFault) → r ≡ up_to_fault g es → loaded g es ≡ with_names r
 read_once g es r is =
     let u = up_to_fault g es in
     in_two g nothing_loaded es
@@ -126,26 +109,23 @@ ends_at total None l is = tt
 ends_at total (Some r) l is = is
 
 -- the first key that is a name of an entry before is refused
-pub key_refused : (g : Glossary) (es : List (At Entry)) (r : UpToFault) (n : ℕ) (e : Source) (key : At (List ℕ)) (o : Option Refusal) → r ≡ up_to_fault g es → Some n ≡ first_repeated (names_from 0 r.entries) 0 r.entries → slice_get r.entries n ≡ Some e
-    → slice_get r.keys n ≡ Some key → o ≡ Some (refused_at key (duplicate_key e.key)) → IfSome o (λ x. loaded g es ≡ Err x)
-key_refused g es r n e key o is found entry keyed refusal =
-    ends_with (loaded g es) o (refused_at key (duplicate_key e.key)) refusal (read_once g es r is
-    ∙ (ap (λ (m : Option ℕ). by_number m r.entries r.keys >>= ends r.fault) (sym found)
-    ∙ ((λ i. at_both (entry i) (keyed i) (as_read r.entries r.keys) >>= ends r.fault))))
+pub key_refused : (r : UpToFault) (n : ℕ) (e : Source) (key : At (List ℕ)) (o : Option Refusal) → Some n ≡ first_repeated (names_from 0 r.entries) 0 r.entries → slice_get r.entries n ≡ Some e → slice_get r.keys n ≡ Some key
+    → o ≡ Some (refused_at key (duplicate_key e.key)) → IfSome o (λ x. with_names r ≡ Err x)
+key_refused r n e key o found entry keyed refusal =
+    ends_with (with_names r) o (refused_at key (duplicate_key e.key)) refusal (ap (λ (m : Option ℕ). by_number m r.entries r.keys >>= ends r.fault) (sym found)
+    ∙ ((λ i. at_both (entry i) (keyed i) (as_read r.entries r.keys) >>= ends r.fault)))
 
 -- where there is none, the fault is
-pub fault_refused : (g : Glossary) (es : List (At Entry)) (r : UpToFault) (o : Option Refusal) → r ≡ up_to_fault g es → None ≡ first_repeated (names_from 0 r.entries) 0 r.entries → o ≡ r.fault → IfSome o (λ x. loaded g es ≡ Err x)
-fault_refused g es r o is none fault =
-    ends_at (loaded g es) o (as_read r.entries r.keys) (read_once g es r is
-    ∙ (ap (λ (m : Option ℕ). by_number m r.entries r.keys >>= ends r.fault) (sym none)
-    ∙ ap (λ (f : Option Refusal). ends f (as_read r.entries r.keys)) (sym fault)))
+pub fault_refused : (r : UpToFault) (o : Option Refusal) → None ≡ first_repeated (names_from 0 r.entries) 0 r.entries → o ≡ r.fault → IfSome o (λ x. with_names r ≡ Err x)
+fault_refused r o none fault =
+    ends_at (with_names r) o (as_read r.entries r.keys) (ap (λ (m : Option ℕ). by_number m r.entries r.keys >>= ends r.fault) (sym none)
+    ∙ ap (λ (f : Option Refusal). ends f (as_read r.entries r.keys)) (sym fault))
 
 -- and where there is no fault, all entries are read
-pub all_read : (g : Glossary) (es : List (At Entry)) (r : UpToFault) → r ≡ up_to_fault g es → None ≡ first_repeated (names_from 0 r.entries) 0 r.entries → r.fault ≡ None → loaded g es ≡ Ok (as_read r.entries r.keys)
-all_read g es r is none whole =
-    read_once g es r is
-    ∙ (ap (λ (m : Option ℕ). by_number m r.entries r.keys >>= ends r.fault) (sym none)
-    ∙ ap (λ (f : Option Refusal). ends f (as_read r.entries r.keys)) whole)
+pub all_read : (r : UpToFault) → None ≡ first_repeated (names_from 0 r.entries) 0 r.entries → r.fault ≡ None → with_names r ≡ Ok (as_read r.entries r.keys)
+all_read r none whole =
+    ap (λ (m : Option ℕ). by_number m r.entries r.keys >>= ends r.fault) (sym none)
+    ∙ ap (λ (f : Option Refusal). ends f (as_read r.entries r.keys)) whole
 
 -- what was read, as it lies in memory
 pub read_there : (es : List Held) (ns : List NamedIndex) (b : Indexed) (keys : List (Spanned (Bor (List ℕ)))) → b ≡ indexed es ns → meaning_in (names_in ns) ≡ (λ name. last_named name (sources_view es)) → as_read (sources_view es) (map spanned_text_view keys) ≡ loaded_with_keys b keys

@@ -1,10 +1,12 @@
 pub mod Fronts
 pub mod Indices
 pub mod Bibliographies
+pub mod Catalogs
 pub mod Naming
 pub mod Lending
 pub mod Keys
 pub mod Errors
+pub mod Loading
 pub mod Lines
 pub use Rattle.biblatex_text.specs.Token
 pub use Rattle.biblatex_text.specs.Raw
@@ -24,6 +26,7 @@ pub use Rattle.biblatex_entries.specs.TypeNames
 pub use Rattle.biblatex_entries.specs.Names
 pub use Rattle.biblatex_entries.specs.Entries
 pub use Rattle.biblatex_entries.specs.Typed
+pub use Rattle.biblatex_suppliers.specs.FieldNames
 pub use Rattle.biblatex_meaning.specs.Listed
 pub use Rattle.biblatex_meaning.specs.Reading
 pub use Rattle.biblatex_meaning.specs.Resolved

@@ -14,6 +14,7 @@ ghost use Rattle.biblatex_inheritance.specs.Solution.{IsRefusedAs};
 ghost use Rattle.biblatex_reading_back.specs.ReadingBack.{ReadsBack};
 ghost use Rattle.biblatex.specs.Indices.{AreInOrder};
 ghost use Rattle.biblatex.specs.Keys.{keys_left};
+ghost use Rattle.biblatex.specs.Loading.{whole, AreApart};
 ghost use Rattle.biblatex_meaning.specs.Resolved.{IsResolved};
 ghost use Rattle.biblatex.specs.Lending.{LendsEntry, LendsEntries};
 ghost use Rattle.biblatex_entries.specs.declared.entry.Entry.{Entry};
@@ -21,12 +22,14 @@ ghost use Rattle.biblatex_entries.specs.Entries.{source_view, sources_view, Have
 ghost use Rattle.biblatex_meaning.specs.Listed.{IsAsRead, nothing, pushed, references, entry_named};
 ghost use Rattle.biblatex.specs.Bibliographies.{indexed, listed_view, IsWithin, inserted, removed, aliased, flattened};
 
+use crate::catalog::Catalog;
 use crate::indexed::{key_alone, put_last, replace, take};
 use crate::indices::{NamedIndex, bind, index_in, indices_meant};
 use crate::keys::Keys;
 use crate::naming::are_apart;
 use biblatex_entries::Entry;
 use biblatex_inheritance::{Resolution, ResolveError, resolve};
+use biblatex_suppliers::{Shared, Written, all_supplies};
 use biblatex_writing::{are_each_settled, entries_text, flatten_entries, write_entries};
 use sinks::{Sink, SinkFault};
 use std::alloc::{AllocError, Global};
@@ -247,6 +250,26 @@ impl Bibliography {
         let Bibliography { entries, names } = self;
         let Resolution { entries, count } = resolve(alloc, entries, &references)?;
         Ok((Bibliography { entries, names }, count))
+    }
+
+    /// The entries as a catalog, with the fields beside them and under the same names: with their references resolved, each to be made where
+    /// it is asked for.
+    pub(crate) fn cataloged(
+        self,
+        alloc: Global,
+        shared: Vec<Vec<Shared>>,
+    ) -> Result<Catalog, ResolveError>
+        requires { AreApart self.entries shared.items }
+        ensures ok { IfOk result (λ c.
+            IsResolved (listed_view (whole self shared.items)) (listed_view c)) }
+        ensures err { IfErr result (IsRefusedAs (whole self shared.items).entries
+            (references (listed_view (whole self shared.items)))) }
+    {
+        let references = self.references(alloc)?;
+        let Bibliography { entries, names } = self;
+        let written = Written { entries, shared };
+        let supplies = all_supplies(alloc, &written, &references)?;
+        Ok(Catalog::of(written, names, supplies))
     }
 
     /// Writes the entries as a BibLaTeX file. Takes no memory. After an error the sink has taken a prefix of the file. The file of a

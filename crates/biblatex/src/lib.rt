@@ -2,7 +2,9 @@
 //! texts, contents, dates, fields and entries is re-exported, so that crates above name this one alone.
 #![tactic(auto)]
 
+mod apart;
 mod bibliography;
+mod catalog;
 mod indexed;
 mod indices;
 mod iterators;
@@ -22,12 +24,14 @@ pub use biblatex_field_types::{
 };
 pub use biblatex_fields::{Abbreviations, Fields, ParseError, ParseErrorKind};
 pub use biblatex_lists::Person;
+pub use biblatex_suppliers::FieldName;
 pub use biblatex_text::{
     BiblatexParser, Fault, Field, Pair, RawBibliography, RawChunk, RawEntry, RawError, Spanned,
     Token, is_id_continue, is_id_start, is_key,
 };
 pub use biblatex_writing::{is_settled_content, written_name};
 pub use bibliography::Bibliography;
+pub use catalog::Catalog;
 pub use keys::Keys;
 pub use parsing::Counted;
 pub use reading::parse_field;

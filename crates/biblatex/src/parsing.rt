@@ -30,7 +30,7 @@ pub struct Counted {
 }
 
 /// The kind of a fault of the raw grammar.
-fn kind_of(fault: Fault) -> ParseErrorKind
+pub(crate) fn kind_of(fault: Fault) -> ParseErrorKind
     ensures { reason_view result ≡ raw fault }
 {
     match fault {
@@ -41,7 +41,7 @@ fn kind_of(fault: Fault) -> ParseErrorKind
 }
 
 /// Why entries are not resolved, at the key of the entry that reaches itself or whose date cannot be read.
-fn unresolved(
+pub(crate) fn unresolved(
     alloc: Global,
     keys: &[Spanned<&str>],
     error: ResolveError,

@@ -1,12 +1,13 @@
 //! Reading the entries of a text, before their references are resolved.
 
-ghost use Rattle.std.specs.Prelude.{◌≡◌, IfOk, Some, map, string_bytes};
+ghost use Rattle.std.specs.Prelude.{◌≡◌, IfOk, Some, length, map, string_bytes};
 ghost use Rattle.std.specs.Str.{chars};
 ghost use Rattle.biblatex_text.specs.Views.{entry_view, piece_view, spanned_text_view};
 ghost use Rattle.biblatex_fields.specs.Value.{field_value_view, value_in};
 ghost use Rattle.biblatex_meaning.specs.Reading as specs;
 ghost use Rattle.biblatex_meaning.specs.Reading.{refused_at, duplicate_key};
-ghost use Rattle.biblatex.specs.Errors.{loaded_view, refusal_of};
+ghost use Rattle.biblatex.specs.Errors.{loaded_view, read_view, refusal_of};
+ghost use Rattle.biblatex.specs.Loading.{with_names};
 ghost use Rattle.laws.specs.Results.{Gives};
 
 use crate::Bibliography;
@@ -62,11 +63,20 @@ pub(crate) fn load<'s>(
     ensures { Gives refusal_of loaded_view result
         (specs.loaded abbreviations.now (map entry_view entries.entry.items)) }
 {
+    let read = read_entries(alloc, abbreviations, entries)?;
+    with_names(alloc, read)
+}
+
+/// What entries that were read come to, once their names are put in order.
+pub(crate) fn with_names<'s>(alloc: Global, read: ReadEntries<'s>) -> Result<Loaded<'s>, ParseError>
+    requires { length (read_view read).entries ≡ length (read_view read).keys }
+    ensures { Gives refusal_of loaded_view result (with_names (read_view read.entry)) }
+{
     let ReadEntries {
         entries,
         keys,
         fault,
-    } = read_entries(alloc, abbreviations, entries)?;
+    } = read;
     let names = sorted_names(alloc, entries.as_slice())?;
     if let Some(number) = first_repeated(entries.as_slice(), names.as_slice()) {
         return Err(repeated(&entries[number], &keys[number])?);

@@ -32,11 +32,11 @@ pub borrowed_is : (es : List Entry) (i : ℕ) (o : Option (Bor Entry)) (P : Bor 
 borrowed_is es i None P there bounds = ap (offer_in i) (sym (slice_get_past es i bounds))
 borrowed_is es i (Some x) P there bounds = ap (offer_in i) (ap (λ (e : Entry). Some e) there ∙ sym (slice_get-get_or es i x.now bounds.0))
 
-last_date-append : (so_far : Option Date) (os more : List Offer) → last_date so_far (os ++ more) ≡ last_date (last_date so_far os) more
+pub last_date-append : (so_far : Option Date) (os more : List Offer) → last_date so_far (os ++ more) ≡ last_date (last_date so_far os) more
 last_date-append so_far [] more = refl
 last_date-append so_far (o ∷ os) more = last_date-append (later so_far (readable (date_in o.fields))) os more
 
-first_fault-append : (os more : List Offer) → first_fault (os ++ more) ≡ earlier (first_fault os) (first_fault more)
+pub first_fault-append : (os more : List Offer) → first_fault (os ++ more) ≡ earlier (first_fault os) (first_fault more)
 first_fault-append [] more = refl
 first_fault-append (o ∷ os) more = ap (earlier (fault o.number (date_in o.fields))) (first_fault-append os more) ∙ sym (earlier_twice (fault o.number (date_in o.fields)) (first_fault os) (first_fault more))
 

@@ -19,7 +19,7 @@ pub first_none : (a : Option Value) → first a None ≡ a
 first_none None = refl
 first_none (Some v) = refl
 
-first_offer-append : (to : Role) (os more : List Offer) (q : List ℕ) → first_offer to (os ++ more) q ≡ first (first_offer to os q) (first_offer to more q)
+pub first_offer-append : (to : Role) (os more : List Offer) (q : List ℕ) → first_offer to (os ++ more) q ≡ first (first_offer to os q) (first_offer to more q)
 first_offer-append to [] more q = refl
 first_offer-append to (o ∷ os) more q = ap (first (offered to o.role o.fields q)) (first_offer-append to os more q) ∙ sym (first_twice (offered to o.role o.fields q) (first_offer to os q) (first_offer to more q))
 

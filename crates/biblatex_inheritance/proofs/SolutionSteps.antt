@@ -35,10 +35,10 @@ pub found_first : (faults : List (Option DateFault)) (i : ℕ) (o : Option DateF
 found_first faults i None some is before = absurd cc
 found_first faults i (Some f) some is before = (i, is, before)
 
-contains_first : (r : ℕ) (rs : List ℕ) → Contains (r ∷ rs) r
+pub contains_first : (r : ℕ) (rs : List ℕ) → Contains (r ∷ rs) r
 contains_first r rs = (0, omega arith, refl)
 
-contains_later : (r x : ℕ) (rs : List ℕ) → Contains rs x → Contains (r ∷ rs) x
+pub contains_later : (r x : ℕ) (rs : List ℕ) → Contains rs x → Contains (r ∷ rs) x
 contains_later r x rs (k, low, is) = (suc k, omega arith, is)
 
 -- what others offer stays

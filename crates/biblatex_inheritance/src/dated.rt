@@ -16,8 +16,10 @@ use texts::split_first;
 
 /// The last date that can be read in references, and the fault of the first that cannot.
 #[derive(Clone, Copy)]
-pub(crate) struct Dated {
+pub struct Dated {
+    /// The last date that can be read.
     pub date: Option<Date>,
+    /// The fault of the first that cannot.
     pub fault: Option<DateFault>,
 }
 
@@ -81,7 +83,7 @@ fn date_in(
 }
 
 /// The date that the text spells.
-fn read_date(text: &str) -> Result<Option<Date>, TypeErrorKind>
+pub fn read_date(text: &str) -> Result<Option<Date>, TypeErrorKind>
     ensures { result ≡ some_date (date_of (shape_of (chars text.now))) }
 {
     Ok(Some(Date::read(text)?))
@@ -96,7 +98,7 @@ fn text_at(alloc: Global, fields: &Fields, name: &str) -> Result<String, AllocEr
 
 impl Dated {
     /// The same with the date of one reference more.
-    fn and(self, reference: usize, more: Result<Option<Date>, TypeErrorKind>) -> Dated
+    pub fn and(self, reference: usize, more: Result<Option<Date>, TypeErrorKind>) -> Dated
         ensures date { result.date ≡ later self.date (readable more) }
         ensures fault { result.fault ≡ earlier self.fault (fault reference more) }
     {

@@ -47,7 +47,7 @@ pub(crate) fn inherit(
 }
 
 /// Whether an entry of the role needs a date.
-fn needs_date(role: Role) -> bool
+pub fn needs_date(role: Role) -> bool
     ensures { result ≡ needs_date role }
 {
     !matches!(role, Role::XData | Role::Set)
@@ -88,7 +88,7 @@ fn pass_on_where(
 }
 
 /// Replaces the date, year, month and day of the fields by a date, without its time.
-fn set_date(alloc: Global, fields: &mut Fields, date: Date) -> Result<(), AllocError>
+pub fn set_date(alloc: Global, fields: &mut Fields, date: Date) -> Result<(), AllocError>
     ensures { OnOk result (IsTable fields.new (with_date date (table_view fields.old))) }
 {
     fields.remove("year");
@@ -98,7 +98,7 @@ fn set_date(alloc: Global, fields: &mut Fields, date: Date) -> Result<(), AllocE
 }
 
 /// The date, without its time, as a value.
-fn date_value(alloc: Global, date: Date) -> Result<Chunks, AllocError>
+pub fn date_value(alloc: Global, date: Date) -> Result<Chunks, AllocError>
     ensures { IfOk result (λ v. field_value_view v.items ≡ date_value date) }
 {
     let date = date.without_time();
@@ -107,7 +107,7 @@ fn date_value(alloc: Global, date: Date) -> Result<Chunks, AllocError>
 }
 
 /// The date as it is written.
-fn text_of_date(alloc: Global, date: &Date) -> Result<String, AllocError>
+pub fn text_of_date(alloc: Global, date: &Date) -> Result<String, AllocError>
     ensures { IfOk result (λ s. characters s ≡ date_text date.now) }
 {
     date.to_string(alloc)

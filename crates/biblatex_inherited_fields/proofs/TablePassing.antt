@@ -58,7 +58,7 @@ names_of_both S old cur new ns ms before more q =
     more q ∙ (ap (λ (x : Option Value). first x (if is_among ms q then S q else None)) (before q) ∙ joined (is_among ns q) (is_among ms q) (value_named q old) (S q) (S q) (λ e. refl))
 
 -- what a look-up finds in fields with one more at the end
-found_more : (q : List ℕ) (fs : List Named) (n : List ℕ) (v : Value) → value_named q (fs ++ (n, v) ∷ []) ≡ first (value_named q fs) (if bytes_eq q n then Some v else None)
+pub found_more : (q : List ℕ) (fs : List Named) (n : List ℕ) (v : Value) → value_named q (fs ++ (n, v) ∷ []) ≡ first (value_named q fs) (if bytes_eq q n then Some v else None)
 found_more q [] n v = refl
 found_more q (f ∷ fs) n v = by_test (bytes_eq q f.0) (found_more q fs n v)
   where

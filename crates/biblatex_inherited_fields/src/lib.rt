@@ -4,4 +4,5 @@
 mod passing;
 mod table;
 
-pub use passing::pass_on;
+pub use passing::{copied_value, pass_on, put_lacking};
+pub use table::source_name;

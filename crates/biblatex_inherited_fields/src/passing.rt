@@ -98,7 +98,7 @@ fn pass_on_all(alloc: Global, fields: &mut Fields, from: &Fields) -> Result<(), 
 }
 
 /// Adds a field, unless there is one of its name.
-fn put_lacking(
+pub fn put_lacking(
     alloc: Global,
     fields: &mut Fields,
     wanted: &str,
@@ -117,7 +117,7 @@ fn put_lacking(
 }
 
 /// The same value, with the same spans.
-fn copied_value(alloc: Global, value: &Chunks) -> Result<Chunks, AllocError>
+pub fn copied_value(alloc: Global, value: &Chunks) -> Result<Chunks, AllocError>
     ensures { IfOk result (λ v. field_value_view v.items ≡ field_value_view value.now.items) }
 {
     let copies = copied(alloc, value.as_slice())?;

@@ -59,7 +59,7 @@ pub(crate) fn is_never(name: &str) -> bool
 }
 
 /// The name under which the field stands in the reference.
-pub(crate) fn source_name<'n>(to: Role, from: Role, name: &'n str) -> &'n str
+pub fn source_name<'n>(to: Role, from: Role, name: &'n str) -> &'n str
     ensures { result.now ≡ source_name to from name.now }
 {
     if is_xdata(to) || is_xdata(from) {

@@ -3,4 +3,4 @@
 
 mod reading;
 
-pub use reading::{ReadEntries, read_entries};
+pub use reading::{ReadEntries, read_entries, read_entry};

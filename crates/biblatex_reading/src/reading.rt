@@ -39,7 +39,10 @@ fn entry_of(alloc: Global, raw: &RawEntry, fields: Fields) -> Result<Entry, Allo
 }
 
 /// The entry that is written there.
-fn read_entry(
+///
+/// # Errors
+/// The first fault of its fields; `Memory` where a request for memory was refused.
+pub fn read_entry(
     alloc: Global,
     abbreviations: &Abbreviations<'_, '_>,
     raw: &RawEntry,

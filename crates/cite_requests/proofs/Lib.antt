@@ -7,6 +7,7 @@ pub mod EntriesIndices
 pub mod KeyLists
 pub mod KeysDistinct
 pub mod MarkedEntries
+pub mod CatalogsWorks
 pub mod MarkersPlain
 pub mod RequestsNamed
 pub mod RequestsSteps

@@ -1,5 +1,5 @@
 -- The entries that a document marks are those whose keys it cites.
-use Rattle.std.proofs.Common.{◌≡◌, ◌||◌, ℕ, zero, suc, Bool, true, false, cond, List, [], ◌∷◌, ◌++◌, length, map, replicate, slice_get, Option, Some, None, refl, sym, ap, subst, ◌∙◌, append_assoc, append-nil}
+use Rattle.std.proofs.Common.{◌≡◌, ◌||◌, ℕ, zero, suc, Bool, true, false, cond, List, [], ◌∷◌, ◌++◌, length, map, drop, replicate, slice_get, Option, Some, None, refl, sym, ap, subst, ◌∙◌, append_assoc, append-nil}
 use Rattle.std.specs.Prelude.{option_and_then, option_to_list, slice_set}
 use Rattle.std.specs.List.{AllByRecursion}
 use Rattle.std.specs.Option.{option_map}
@@ -15,7 +15,7 @@ use Rattle.biblatex_laws.proofs.LoadedKeys.{AreApart}
 use Rattle.biblatex_writing.specs.Settled.{have_distinct_keys}
 use Rattle.cite_markers.specs.Document.{Piece, Text, Marker}
 use Rattle.cite_markers.specs.Marker.{Cite}
-use Rattle.cite_requests.specs.Cited.{entries_with, is_among, key_meant, keys_cited, keys_named, marked_at, marked_cites, marked_entries, marked_in, marked_pieces}
+use Rattle.cite_requests.specs.Cited.{entries_with, is_among, key_meant, keys_cited, keys_named, marked_at, marked_cites, marked_entries, marked_here, marked_in, marked_pieces}
 use Rattle.cite_requests.proofs.CitedKeys.{or_false, turned}
 use Rattle.cite_requests.proofs.KeysDistinct.{distinct_apart}
 
@@ -129,12 +129,30 @@ pub in_length : (file : Listed) (ms : List Bool) (p : Piece) → length (marked_
 in_length file ms (Text t) = refl
 in_length file ms (Marker cs) = cites_length file ms cs
 
--- entries that have marks, one after the other
-pub marked_more : (found : List Source) (m : Bool) (ms : List Bool) (e : Source) (es : List Source)
-    → (found ++ marked_entries (m ∷ []) (e ∷ [])) ++ marked_entries ms es ≡ found ++ marked_entries (m ∷ ms) (e ∷ es)
-marked_more found true ms e es = append_assoc found (e ∷ []) (marked_entries ms es)
-marked_more found false ms e es = ap (λ (xs : List Source). xs ++ marked_entries ms es) (append-nil found)
-
 pub no_entry : (ms : List Bool) → marked_entries ms [] ≡ []
 no_entry [] = refl
 no_entry (m ∷ ms) = refl
+
+-- where there is no entry, a mark gives none
+none_here : (mark : Option Bool) → marked_here mark None ≡ []
+none_here None = refl
+none_here (Some true) = refl
+none_here (Some false) = refl
+
+-- the entry at an index, where it has a mark, and those after it
+pub marked_from : (ms : List Bool) (es : List Source) (i : ℕ) → marked_entries (drop i ms) (drop i es) ≡ marked_here (slice_get ms i) (slice_get es i) ++ marked_entries (drop (suc i) ms) (drop (suc i) es)
+marked_from [] [] zero = refl
+marked_from [] [] (suc i) = refl
+marked_from [] (e ∷ es) zero = refl
+marked_from [] (e ∷ es) (suc i) = refl
+marked_from (true ∷ ms) [] zero = sym (no_entry ms)
+marked_from (false ∷ ms) [] zero = sym (no_entry ms)
+marked_from (m ∷ ms) [] (suc i) = no_entry (drop i ms) ∙ sym (ap (λ (xs : List Source). xs ++ marked_entries (drop (suc i) ms) []) (none_here (slice_get ms i)) ∙ no_entry (drop (suc i) ms))
+marked_from (true ∷ ms) (e ∷ es) zero = refl
+marked_from (false ∷ ms) (e ∷ es) zero = refl
+marked_from (m ∷ ms) (e ∷ es) (suc i) = marked_from ms es i
+
+-- where each entry has a mark
+pub all_marked : (es : List Source) → marked_entries (replicate (length es) true) es ≡ es
+all_marked [] = refl
+all_marked (e ∷ es) = ap (λ (xs : List Source). e ∷ xs) (all_marked es)

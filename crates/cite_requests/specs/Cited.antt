@@ -1,13 +1,14 @@
 -- The works that a call needs: where it has sections, which may choose any, all works of the file, and else those that the document cites.
-use Rattle.std.specs.Prelude.{ℕ, Bool, true, false, List, [], ◌∷◌, filter, option_to_list, slice_set, Option, Some, None, if◌then◌else◌}
+use Rattle.std.specs.Prelude.{ℕ, Bool, true, false, List, [], ◌∷◌, ◌++◌, filter, option_to_list, slice_set, Option, Some, None, Result, codes, if◌then◌else◌}
 use Rattle.std.specs.List.{flat_map, list_any}
-use Rattle.std.specs.Option.{option_map}
+use Rattle.std.specs.Option.{option_map, unwrap_or}
 use Rattle.std.specs.Str.{bytes_eq}
 use Rattle.laws.specs.Text.{text, is_filled}
 use Rattle.biblatex.specs.Listed.{Listed, entry_named}
 use Rattle.biblatex.specs.Entries.{Source}
 use Rattle.literature_entries.specs.EntriesData.{EntryData}
-use Rattle.interop.specs.Library.{all_works, put_after}
+use Rattle.interop.specs.Bridge.{Fault, unless_faulty}
+use Rattle.interop.specs.Library.{all_faults, all_works, put_after}
 use Rattle.cite_markers.specs.Document.{Piece, Text, Marker}
 use Rattle.cite_markers.specs.Marker.{Cite}
 use Rattle.cite_requests.specs.Works.{Works}
@@ -69,6 +70,18 @@ marked_entries [] es = []
 marked_entries (m ∷ ms) [] = []
 marked_entries (true ∷ ms) (e ∷ es) = e ∷ marked_entries ms es
 marked_entries (false ∷ ms) (e ∷ es) = marked_entries ms es
+
+-- what entries come to after works and faults: the library of all, or all faults
+abbrev pub come_to : List Fault → List EntryData → List Source → Result (List EntryData) (List Fault)
+come_to fs ws es = unless_faulty (fs ++ all_faults es) (put_after ws (all_works es))
+
+-- the entry at an index, alone, where it has a mark
+abbrev pub marked_here : Option Bool → Option Source → List Source
+marked_here mark o = if unwrap_or mark false then option_to_list o else []
+
+-- the fields that are read as dates, and those that a date is made of
+abbrev pub read_as_dates : List (List ℕ)
+read_as_dates = codes "date" ∷ codes "year" ∷ codes "month" ∷ codes "day" ∷ codes "eventdate" ∷ codes "origdate" ∷ codes "urldate" ∷ []
 
 -- the entries that are needed
 abbrev pub entries_needed : Listed → List (List ℕ) → List Piece → List Source

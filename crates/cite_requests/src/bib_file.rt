@@ -1,32 +1,34 @@
 //! The works of a bib text, and what names mean.
 
-ghost use Rattle.std.specs.Prelude.{◌≡◌, [], true};
+ghost use Rattle.std.specs.Prelude.{◌≡◌, [], true, option_and_then, slice_get};
 ghost use Rattle.std.specs.Option.{option_map};
 ghost use Rattle.biblatex.specs.Bibliographies.{listed_view};
 ghost use Rattle.biblatex.specs.Entries.{source_view};
 ghost use Rattle.biblatex_writing.specs.Settled.{have_distinct_keys};
 ghost use Rattle.literature_entries.specs.EntriesData.{entry_view};
 ghost use Rattle.interop.specs.Library.{all_faults, library_of};
-ghost use Rattle.interop.specs.Views.{lent_sources_view, library_view};
+ghost use Rattle.interop.specs.Views.{library_view};
+ghost use Rattle.cite_requests.specs.Cited.{marked_entries};
 ghost use Rattle.cite_requests.specs.Works.{work_of};
 ghost use Rattle.cite_requests.specs.Stages.{IsRead, fields_refused, refused_as};
 ghost use Rattle.cite_requests.specs.Answers.{Answers, Gives};
 
+use crate::bridging::{check_catalog, marked_library};
 use crate::bytes::utf8_text;
 use crate::error::{BibTextError, CiteError};
-use crate::marks::{cited_marks, marked_entries};
-use biblatex::{Bibliography, Entry as SourceEntry, ParseError};
+use crate::marks::cited_marks;
+use biblatex::{Catalog, Entry as SourceEntry, ParseError};
 use cite_markers::Document;
-use interop::{check_dates, from_biblatex, from_entries, is_xdata};
+use interop::is_xdata;
 use literature::Library;
 use literature_entries::Entry;
 use std::alloc::Global;
 
 /// The entries of a bib text, whose keys are distinct and all of whose dates can be read. A library is made only of those that are
-/// needed.
+/// needed, and an entry that inherits something only for as long as its work is made.
 #[derive(Drop)]
 pub struct BibFile {
-    file: Bibliography,
+    file: Catalog,
     ghost readable: { all_faults (listed_view file).entries ≡ [] },
     ghost distinct: { have_distinct_keys (listed_view file).entries ≡ true },
 }
@@ -59,11 +61,11 @@ impl BibFile {
 
     /// The works of a file, or all fields of it that cannot be read.
     #[tactic(auto, using(interop::proofs::LibraryFaults::none))]
-    fn checked(alloc: Global, file: Bibliography) -> Result<BibFile, CiteError>
+    fn checked(alloc: Global, file: Catalog) -> Result<BibFile, CiteError>
         requires { have_distinct_keys (listed_view file).entries ≡ true }
         ensures { Gives file_works result (library_stage (listed_view file)) }
     {
-        check_dates(alloc, &file)?;
+        check_catalog(alloc, &file)?;
         Ok(BibFile { file })
     }
 
@@ -93,8 +95,7 @@ impl BibFile {
             (file_view self.now).entries))) }
     {
         let marks = cited_marks(alloc, &self.file, document)?;
-        let cited = marked_entries(alloc, self.file.entries(), marks.as_slice())?;
-        library_of(alloc, &cited)
+        library_of(alloc, &self.file, marks.as_slice())
     }
 
     /// The work of the library that a name means, by its key or an alias. Entries of type `xdata`, which only lend their fields,
@@ -103,25 +104,39 @@ impl BibFile {
         ensures { option_map (λ e. entry_view e.now) result
             ≡ meaning name.now (file_works_with self.now library.now) }
     {
-        let entry = self.file.get(name)?;
-        work_of(library, entry)
+        match self.file.index(name) {
+            Some(index) => work_at(&self.file, library, index),
+            None => None,
+        }
+    }
+}
+
+/// The work of the library that the entry at an index is. Entries of type `xdata`, which only lend their fields, are no works.
+fn work_at<'l>(file: &Catalog, library: &'l Library, index: usize) -> Option<&'l Entry>
+    ensures { option_map (λ e. entry_view e.now) result ≡ option_and_then
+        (work_of (library_view library.now)) (slice_get (listed_view file.now).entries index) }
+{
+    match file.written(index) {
+        Some(entry) => work_of(library, entry),
+        None => None,
     }
 }
 
 /// The library of a file, or all fields of it that cannot be read.
-fn whole_library(alloc: Global, file: &Bibliography) -> Result<Library, CiteError>
+fn whole_library(alloc: Global, file: &Catalog) -> Result<Library, CiteError>
     ensures { Gives library_view result
         (refused_as fields_refused (library_of (listed_view file.now).entries)) }
 {
-    Ok(from_biblatex(alloc, file)?)
+    let marks = vec![in alloc; true; file.len()]?;
+    library_of(alloc, file, marks.as_slice())
 }
 
-/// The library of entries, or all fields of them that cannot be read.
-fn library_of(alloc: Global, entries: &[&SourceEntry]) -> Result<Library, CiteError>
-    ensures { Gives library_view result
-        (refused_as fields_refused (library_of (lent_sources_view entries.now))) }
+/// The library of the entries that have a mark, or all fields of them that cannot be read.
+fn library_of(alloc: Global, file: &Catalog, marks: &[bool]) -> Result<Library, CiteError>
+    ensures { Gives library_view result (refused_as fields_refused
+        (library_of (marked_entries marks.now (listed_view file.now).entries))) }
 {
-    Ok(from_entries(alloc, entries)?)
+    Ok(marked_library(alloc, file, marks)?)
 }
 
 /// The work that an entry of a file is, in the library of the file. Entries of type `xdata`, which only lend their fields, are no works.
@@ -136,13 +151,13 @@ pub fn work_of<'l>(library: &'l Library, entry: &SourceEntry) -> Option<&'l Entr
 }
 
 /// The entries of a bib text.
-fn read_file(alloc: Global, bib: &[u8]) -> Result<Bibliography, CiteError>
+fn read_file(alloc: Global, bib: &[u8]) -> Result<Catalog, CiteError>
     ensures { Answers listed_view result (IsRead bib.now) }
 {
     let Some(text) = utf8_text(bib) else {
         return Err(CiteError::BibText(BibTextError::Utf8));
     };
-    match Bibliography::parse(alloc, text) {
+    match Catalog::parse(alloc, text) {
         Ok(file) => Ok(file),
         Err(ParseError::Memory) => Err(CiteError::Memory),
         Err(error) => Err(CiteError::BibText(BibTextError::Parse(error))),

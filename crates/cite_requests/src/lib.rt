@@ -4,6 +4,7 @@
 #![tactic(auto)]
 
 mod bib_file;
+mod bridging;
 mod bytes;
 mod cited;
 mod document;

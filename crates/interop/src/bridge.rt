@@ -164,7 +164,7 @@ pub fn from_entries(alloc: Global, entries: &[&SourceEntry]) -> Result<Library, 
 }
 
 /// The library, unless there are faults.
-fn finished(library: Library, faults: Vec<FieldFault>) -> Result<Library, BridgeError>
+pub fn finished(library: Library, faults: Vec<FieldFault>) -> Result<Library, BridgeError>
     ensures { Gives refusal_of library_view result
         (unless_faulty (map fault_view faults.items) (library_view library)) }
 {
@@ -212,7 +212,7 @@ fn put_each(
 
 /// Puts the work that an entry is into the library, or its faults after the others; nothing where the entry only lends
 /// its fields.
-fn put_work(
+pub fn put_work(
     alloc: Global,
     library: &mut Library,
     faults: &mut Vec<FieldFault>,

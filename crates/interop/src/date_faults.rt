@@ -42,7 +42,7 @@ fn date_faults(alloc: Global, entries: &[SourceEntry]) -> Result<Vec<FieldFault>
 }
 
 /// Appends the faults of an entry's dates, unless the entry only lends its fields.
-fn push_work_faults(
+pub fn push_work_faults(
     alloc: Global,
     faults: &mut Vec<FieldFault>,
     read: &SourceEntry,

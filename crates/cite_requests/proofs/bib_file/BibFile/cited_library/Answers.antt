@@ -1,9 +1,9 @@
-use Rattle.std.proofs.Common.{◌≡◌, false, List, length, replicate, Result, refl, ap, subst, ◌∙◌}
+use Rattle.std.proofs.Common.{◌≡◌, Bool, false, List, length, replicate, Result, refl, ap, subst, ◌∙◌}
 use Rattle.biblatex.specs.Bibliographies.{listed_view}
 use Rattle.biblatex.specs.Entries.{Source}
 use Rattle.literature_entries.specs.EntriesData.{EntryData}
 use Rattle.interop.specs.Library.{library_of}
-use Rattle.interop.specs.Views.{lent_sources_view, library_view}
+use Rattle.interop.specs.Views.{library_view}
 use Rattle.interop.proofs.LibraryKeys.{no_fault_among}
 use Rattle.cite_markers.specs.Views.{document_view}
 use Rattle.cite_requests.specs.Answers.{Gives}
@@ -20,8 +20,8 @@ returns c =
     let keys = keys_cited file pieces in
     let es = entries_with keys file.entries in
     let marks : c.as_slice.result.now ≡ marked_pieces file (replicate (length file.entries) false) pieces = c.as_slice.ensures.value ∙ c.in_ok-marks.ensures in
-    let same : lent_sources_view c.deref.result.now ≡ es =
-    ap lent_sources_view c.deref.ensures.value ∙ c.in_ok-cited.ensures ∙ (λ i. marked_entries (marks i) (c.entries.ensures i)) ∙ marked_cited file pieces c.args.self.now.distinct in
+    let same : marked_entries c.as_slice.result.now file.entries ≡ es =
+    ap (λ (ms : List Bool). marked_entries ms file.entries) marks ∙ marked_cited file pieces c.args.self.now.distinct in
     subst (λ (r : Result (List EntryData) Refusal). Gives library_view c.library_of.result r)
     (ap (λ (xs : List Source). refused_as fields_refused (library_of xs)) same
     ∙ needed_is es (library_from es) (no_fault_among (λ e. is_among keys e.key) file.entries c.args.self.now.readable) refl) c.library_of.ensures

@@ -1,0 +1,9 @@
+pub mod AskingNames
+pub mod WrittenEntries
+pub mod WrittenAside
+pub mod SameValues
+pub mod SupplyingValues
+pub mod PassingAsked
+pub mod SeeingAlike
+pub mod AlongOrder
+pub mod MakingEntries

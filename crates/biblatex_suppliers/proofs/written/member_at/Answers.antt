@@ -1,0 +1,5 @@
+use Rattle.biblatex_suppliers.proofs.SupplyingValues.{borrowed_at}
+use Rattle.biblatex_suppliers.proofs.written.member_at.Goals as goal
+
+pub returns : goal.returns
+returns c = borrowed_at c.args.entries.now c.args.number c.get.result _ c.get.ensures.lookup.1 c.get.ensures.lookup.3

@@ -1,0 +1,5 @@
+pub mod Asked
+pub mod FieldNames
+pub mod Written
+pub mod Suppliers
+pub mod Seen
