@@ -4,7 +4,7 @@ use crate::files::read_files;
 use cases::{Refusal, Session, Taker, Value};
 use cite_csl::{paths, run};
 use cite_csl_command::{Asked, CommandFault, asked_by};
-use cite_csl_styles::parent_paths;
+use cite_csl_styles::{found_in, parent_paths};
 use clap::error::ErrorKind;
 use programs::FileRead;
 use sinks::Tap;
@@ -63,9 +63,10 @@ fn run_words(
             return 2;
         }
     };
+    let found = found_in(alloc, files, asked.style);
     let mut out = Tap::new(first);
     let mut err = Tap::new(second);
-    run(alloc, &asked, files, &mut out, &mut err)
+    run(alloc, &asked, files, found, &mut out, &mut err)
 }
 
 /// Runs the program with the words of a case, and returns its status.

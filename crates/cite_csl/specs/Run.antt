@@ -89,13 +89,18 @@ IsMadeIn read a found =
     Then (Gives (strict a.is_strict found)) (λ (s : Sheet).
     IsOutput read a s)
 
+-- what a run comes to whose files are read
+abbrev pub IsMadeOf : Reads → Asked → Result Made Lines → Type 0
+IsMadeOf read a =
+    Then (IsSheet read a.style) (λ (found : Sheet).
+    IsMadeIn read a found)
+
 -- What a run comes to, or the lines that say why it comes to nothing: all files are read, and then the style, the locales, the bib texts, the
 -- document and its names; the first that is refused says all of its faults.
 abbrev pub IsMade : Reads → Asked → Result Made Lines → Type 0
 IsMade read a =
     Then (AreRead read (paths a)) (λ _.
-    Then (IsSheet read a.style) (λ (found : Sheet).
-    IsMadeIn read a found))
+    IsMadeOf read a)
 
 -- the sections are selectors, and the run comes to something of which this holds
 abbrev pub Serves : Reads → Asked → (Made → Type 0) → Type 0

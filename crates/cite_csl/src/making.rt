@@ -1,6 +1,6 @@
 //! What a run comes to.
 
-ghost use Rattle.std.specs.Prelude.{◌≡◌, map, IfOk, string_bytes};
+ghost use Rattle.std.specs.Prelude.{◌≡◌, map, Ok, IfOk, string_bytes};
 ghost use Rattle.std.specs.Option.{option_map, option_or};
 ghost use Rattle.programs.specs.Files.{read_at};
 ghost use Rattle.laws.specs.Borrowed.{borrowed};
@@ -8,14 +8,14 @@ ghost use Rattle.cite_csl_styles.specs.Answers.{Answers, Returns};
 ghost use Rattle.rendering_locale.specs.Views.{locale_view};
 ghost use Rattle.rendering_style.specs.StyleViews.{style_view};
 ghost use Rattle.cite_csl.specs.Run as run;
-ghost use Rattle.cite_csl.specs.Run.{IsMade, IsMadeIn, IsOutput, IsOutputIn, output_for, strict, told_of};
+ghost use Rattle.cite_csl.specs.Run.{IsMade, IsMadeOf, IsMadeIn, IsOutput, IsOutputIn, output_for, strict, told_of};
 ghost use Rattle.cite_csl_styles.specs.FeatureLines.{feature_lines};
-ghost use Rattle.cite_csl_styles.specs.Sheets.{IsSheet, sorting_of};
+ghost use Rattle.cite_csl_styles.specs.Sheets.{IsCslRead, IsFound, IsSheetOf, sorting_of};
 ghost use Rattle.cite_csl_styles.specs.Sources as sources;
 ghost use Rattle.cite_csl_styles.specs.Sources.{AreRead};
 ghost use Rattle.cite_csl_command.specs.Views.{asked_view};
 ghost use Rattle.cite_csl.specs.Views.{made_view, works_view};
-ghost use Rattle.cite_csl_styles.specs.Views.{sheet_view, source_view};
+ghost use Rattle.cite_csl_styles.specs.Views.{found_view, sheet_view, source_view};
 ghost use Rattle.cite_markers.specs.Views.{document_view};
 ghost use Rattle.cite_order.specs.Views.{setting_view};
 ghost use Rattle.cite_output.specs.Pieces.{output_of};
@@ -26,7 +26,7 @@ use crate::engine::render;
 use crate::entries::Entries;
 use cite_csl_command::Asked;
 use cite_csl_styles::{
-    Sheet, Stop, feature_lines, file_at, files_at, found_at, locales_of, paths_for, sheet_of,
+    Found, Sheet, Stop, feature_lines, file_at, files_at, locales_of, paths_for, sheet_of,
     term_lines, unread_lines,
 };
 use cite_order::SortedSetting;
@@ -205,25 +205,51 @@ fn make_in<'f>(
     output_in(alloc, asked, files, sheet, told)
 }
 
-/// The style at a path.
-fn sheet_at<'f>(alloc: Global, files: &'f [FileRead<'_>], path: &'f str) -> Result<Sheet<'f>, Stop>
-    ensures sheet { Answers sheet_view result (IsSheet (read_at files.entry.now) path.entry.now) }
+/// The style of a file: its own, or that of its parent among the files.
+fn sheet_in<'f>(
+    alloc: Global,
+    files: &'f [FileRead<'_>],
+    found: Found<'f>,
+) -> Result<Sheet<'f>, Stop>
+    requires { IsFound (found_view found) }
+    ensures sheet { Answers sheet_view result (IsSheetOf (read_at files.entry.now)
+        (found_view found.entry) (found_view found.entry).means) }
     ensures sorting { IfOk result (λ s. style_view s.sorting ≡ sorting_of (sheet_view s)) }
 {
-    let found = found_at(alloc, file_at(files, path))?;
     let parents = paths_for(alloc, &found)?;
     sheet_of(alloc, files, found, &parents)
 }
 
-/// What a run comes to.
+/// What a run comes to whose files are read, by what the file of its style was found to be.
+fn make_of<'f>(
+    alloc: Global,
+    asked: &Asked<'f>,
+    files: &'f [FileRead<'_>],
+    found: Found<'f>,
+) -> Result<Made<'f>, Stop>
+    requires { IsCslRead (sources.file_at (read_at files.now) (asked_view asked.now).style)
+        (Ok (found_view found)) }
+    ensures { Answers made_view result
+        (IsMadeOf (read_at files.entry.now) (asked_view asked.now)) }
+{
+    let sheet = sheet_in(alloc, files, found)?;
+    make_in(alloc, asked, files, &sheet)
+}
+
+/// What a run comes to. What the file of the style was found to be is given.
 pub(crate) fn make<'f>(
     alloc: Global,
     asked: &Asked<'f>,
     files: &'f [FileRead<'_>],
+    found: Result<Found<'f>, Stop>,
 ) -> Result<Made<'f>, Stop>
+    requires { Answers found_view found
+        (IsCslRead (sources.file_at (read_at files.now) (asked_view asked.now).style)) }
     ensures { Answers made_view result (IsMade (read_at files.entry.now) (asked_view asked.now)) }
 {
     read_check(alloc, asked, files)?;
-    let sheet = sheet_at(alloc, files, asked.style)?;
-    make_in(alloc, asked, files, &sheet)
+    match found {
+        Ok(found) => make_of(alloc, asked, files, found),
+        Err(stop) => Err(stop),
+    }
 }

@@ -8,14 +8,17 @@ ghost use Rattle.laws.specs.Text.{spelled};
 ghost use Rattle.sinks.specs.Sinks.{HasFailed, AppendsPrefix};
 ghost use Rattle.cite_requests.specs.Answers as refusals;
 ghost use Rattle.cite_requests.specs.Stages.{section_stage};
-ghost use Rattle.cite_csl_styles.specs.Answers.{IsStop, stop_message, stop_status};
+ghost use Rattle.cite_csl_styles.specs.Answers.{Answers, IsStop, stop_message, stop_status};
+ghost use Rattle.cite_csl_styles.specs.Sheets.{IsCslRead};
+ghost use Rattle.cite_csl_styles.specs.Sources.{file_at};
+ghost use Rattle.cite_csl_styles.specs.Views.{found_view};
 ghost use Rattle.cite_csl.specs.Run.{Serves, ServesOutput, IsCiteOutput, IsCommandFault, IsFault, sections_in};
 ghost use Rattle.cite_csl_command.specs.Views.{asked_view};
 ghost use Rattle.cite_csl.specs.Views.{made_view};
 
 use crate::making::{Made, make};
 use cite_csl_command::Asked;
-use cite_csl_styles::{Stop, line, refused};
+use cite_csl_styles::{Found, Stop, line, refused};
 use cite_requests::{CiteError, selectors};
 use programs::{FileRead, say};
 use sinks::Sink;
@@ -106,15 +109,18 @@ fn write<O: Sink, E: Sink>(made: &Made<'_>, out: &mut O, err: &mut E) -> u8
 /// Runs the program for what words ask for. The output goes to `out`, and the status is 0; then `err` takes a line for each thing that the style
 /// asks for and is not carried out, and then for each term that it prints and no locale has. Or lines that say why there is no output go to `err`:
 /// the status is 2 where a section is no selector, else 1.
-/// `files` are what was read of the paths that `paths` and `parent_paths` name; one that is missing cannot be read. A fault of `err` is passed
-/// over.
+/// `files` are what was read of the paths that `paths` and `paths_for` name; one that is missing cannot be read. `found` is what `found_in` gives for
+/// the style among them: a caller who looks there for its parent reads the style once. A fault of `err` is passed over.
 pub fn run<'f, O: Sink, E: Sink>(
     alloc: Global,
     asked: &Asked<'f>,
     files: &'f [FileRead<'_>],
+    found: Result<Found<'f>, Stop>,
     out: &mut O,
     err: &mut E,
 ) -> u8
+    requires { Answers found_view found
+        (IsCslRead (file_at (read_at files.now) (asked_view asked.now).style)) }
     ensures status { result ≤ 2 }
     // After the status 0 `out` has taken exactly the output, and `err` what is said besides.
     ensures served { result ≡ 0 → Serves (read_at files.entry.now) (asked_view asked.now)
@@ -145,7 +151,7 @@ pub fn run<'f, O: Sink, E: Sink>(
     if let Err(stop) = check_sections(alloc, asked.sections.as_slice()) {
         return say_stop(&stop, 2, err);
     }
-    match make(alloc, asked, files) {
+    match make(alloc, asked, files, found) {
         Ok(made) => write(&made, out, err),
         Err(stop) => say_stop(&stop, 1, err),
     }

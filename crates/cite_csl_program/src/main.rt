@@ -3,7 +3,7 @@
 
 use cite_csl::{paths, run};
 use cite_csl_command::{Asked, CommandFault, asked_by};
-use cite_csl_styles::{ParentPaths, parent_paths};
+use cite_csl_styles::{Found, ParentPaths, Stop, found_in, paths_for};
 use clap::Error;
 use clap::error::ErrorKind;
 use programs::{FileRead, ReadFault, borrowed, read_files};
@@ -47,6 +47,15 @@ fn stored_files(rt: &HostRuntime) -> Result<Vec<FileRead<'static>>, AllocError> 
     Ok(files)
 }
 
+/// How a run over the files that its words name ends.
+#[derive(Drop)]
+enum Ended {
+    /// With a status.
+    Run(u8),
+    /// The style is a dependent one, and its parent has to be read, which may lie at these paths.
+    Parents(ParentPaths),
+}
+
 /// All of standard input.
 fn read_input(rt: &HostRuntime) -> Result<Vec<u8>, ReadFault> {
     let mut bytes = Vec::new(rt.alloc());
@@ -73,19 +82,43 @@ fn read_asked<'w>(rt: &HostRuntime, asked: &Asked<'w>) -> Result<Vec<FileRead<'w
     Ok(files)
 }
 
-/// Runs the program with words over files that were read. The output goes through a buffer, so that its small pieces are no writes of their
-/// own.
-fn run_over(rt: &HostRuntime, words: &[&str], files: &[FileRead<'_>]) -> io::Result<u8> {
-    let asked = match asked_by(rt.alloc(), words) {
-        Ok(asked) => asked,
-        Err(fault) => return Ok(say_fault(rt, &fault)),
-    };
+/// Runs the program over files that were read. The output goes through a buffer, so that its small pieces are no writes of their own.
+fn run_over(rt: &HostRuntime, asked: &Asked<'_>, files: &[FileRead<'_>]) -> io::Result<u8> {
+    let found = found_in(rt.alloc(), files, asked.style);
     let mut out = Tap::new(BufWriter::new(rt.alloc(), rt.stdout())?);
     let mut err = Tap::new(rt.stderr());
-    let status = run(rt.alloc(), &asked, files, &mut out, &mut err);
+    let status = run(rt.alloc(), asked, files, found, &mut out, &mut err);
+    Ok(end_output(rt, out, status))
+}
+
+/// Where the parent of what was found may lie: nothing where that is no dependent style, or is refused.
+fn parents_of(
+    rt: &HostRuntime,
+    found: &Result<Found<'_>, Stop>,
+) -> Result<Option<ParentPaths>, AllocError> {
+    match found {
+        Ok(found) => paths_for(rt.alloc(), found),
+        Err(_) => Ok(None),
+    }
+}
+
+/// Runs the program over the files that its words name, unless the parent of their style has to be read.
+fn run_alone(rt: &HostRuntime, asked: &Asked<'_>, files: &[FileRead<'_>]) -> io::Result<Ended> {
+    let found = found_in(rt.alloc(), files, asked.style);
+    if let Some(parents) = parents_of(rt, &found)? {
+        return Ok(Ended::Parents(parents));
+    }
+    let mut out = Tap::new(BufWriter::new(rt.alloc(), rt.stdout())?);
+    let mut err = Tap::new(rt.stderr());
+    let status = run(rt.alloc(), asked, files, found, &mut out, &mut err);
+    Ok(Ended::Run(end_output(rt, out, status)))
+}
+
+/// Writes what is left of the output, and gives the status.
+fn end_output<W: Write + Drop>(rt: &HostRuntime, out: Tap<BufWriter<W>>, status: u8) -> u8 {
     match finish(out.into_inner(), status) {
-        Ok(()) => Ok(status),
-        Err(_) => Ok(say(rt, "write failed")),
+        Ok(()) => status,
+        Err(_) => say(rt, "write failed"),
     }
 }
 
@@ -133,7 +166,7 @@ fn say_fault(rt: &HostRuntime, fault: &CommandFault) -> u8 {
 /// Runs the program over files that were read and the files at which the parent of a dependent style may lie.
 fn run_with_parents<'p>(
     rt: &HostRuntime,
-    words: &[&str],
+    asked: &Asked<'_>,
     files: Vec<FileRead<'p>>,
     parents: &'p ParentPaths,
 ) -> io::Result<u8> {
@@ -141,15 +174,15 @@ fn run_with_parents<'p>(
     for file in read_files(rt, &[parents.beside.as_str(), parents.above.as_str()])? {
         all.push(file)?;
     }
-    run_over(rt, words, all.as_slice())
+    run_over(rt, asked, all.as_slice())
 }
 
 /// Runs the program for what its words ask for.
-fn run_asked(rt: &HostRuntime, words: &[&str], asked: &Asked<'_>) -> io::Result<u8> {
+fn run_asked(rt: &HostRuntime, asked: &Asked<'_>) -> io::Result<u8> {
     let files = read_asked(rt, asked)?;
-    match parent_paths(rt.alloc(), asked.style, files.as_slice())? {
-        Some(parents) => run_with_parents(rt, words, files, &parents),
-        None => run_over(rt, words, files.as_slice()),
+    match run_alone(rt, asked, files.as_slice())? {
+        Ended::Run(status) => Ok(status),
+        Ended::Parents(parents) => run_with_parents(rt, asked, files, &parents),
     }
 }
 
@@ -157,7 +190,7 @@ fn run_asked(rt: &HostRuntime, words: &[&str], asked: &Asked<'_>) -> io::Result<
 fn run_words(rt: &HostRuntime, given: &[String]) -> io::Result<u8> {
     let words = borrowed(rt.alloc(), given)?;
     match asked_by(rt.alloc(), words.as_slice()) {
-        Ok(asked) => run_asked(rt, words.as_slice(), &asked),
+        Ok(asked) => run_asked(rt, &asked),
         Err(fault) => Ok(say_fault(rt, &fault)),
     }
 }
@@ -165,7 +198,10 @@ fn run_words(rt: &HostRuntime, given: &[String]) -> io::Result<u8> {
 /// Runs the stored run.
 fn run_stored(rt: &HostRuntime) -> io::Result<u8> {
     let files = stored_files(rt)?;
-    run_over(rt, &STORED_WORDS, files.as_slice())
+    match asked_by(rt.alloc(), &STORED_WORDS) {
+        Ok(asked) => run_over(rt, &asked, files.as_slice()),
+        Err(fault) => Ok(say_fault(rt, &fault)),
+    }
 }
 
 /// Runs the program: the stored run where there are no words after its name.

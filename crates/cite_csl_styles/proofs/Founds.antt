@@ -1,5 +1,5 @@
 -- What files of CSL are found to be, and why they are refused.
-use Rattle.std.proofs.Common.{◌≡◌, ℕ, true, List, Option, Some, None, Result, Ok, Err, IfOk, IfSome, inl, inr, refl, sym, ap, ◌∙◌, subst, codes}
+use Rattle.std.proofs.Common.{◌≡◌, ℕ, true, List, [], Option, Some, None, Result, Ok, Err, IfOk, IfSome, inl, inr, refl, sym, ap, ◌∙◌, subst, codes}
 use Rattle.std.specs.Prelude.{IfNone, IsSomeAnd}
 use Rattle.std.specs.Option.{option_map}
 use Rattle.std.specs.Str.{chars, IsUtf8, is_utf8}
@@ -12,11 +12,12 @@ use Rattle.xml_tree.specs.declared.tree.Element.{out-Element}
 use Rattle.xml_schema.specs.Faults.{left_at}
 use Rattle.xml_schema.proofs.Contents.{element_opened}
 use Rattle.fault_lines.specs.Messages.{fault_lines}
+use Rattle.csl_styles.specs.Faults.{faults}
 use Rattle.csl_styles.specs.Files.{Csl}
 use Rattle.csl_styles.specs.Reading.{Refusal, IsRefused, MeansBy}
 use Rattle.cite_csl_styles.specs.Answers.{IsStop, IsRefusal}
 use Rattle.cite_csl_styles.specs.CslLines.{refusal_left, refusal_text}
-use Rattle.cite_csl_styles.specs.Sheets.{Found, IsCslRead, ParentsAt, parents_of, root_lines}
+use Rattle.cite_csl_styles.specs.Sheets.{Found, IsCslRead, IsRootOf, ParentsAt, parents_of, root_lines}
 use Rattle.cite_csl_styles.specs.Sources.{Reads, SourceFile, file_at, lines_left}
 use Rattle.cite_csl_styles.specs.Stages.{Lines, Wanted}
 use Rattle.cite_csl_styles.specs.Views.{found_view, paths_view, source_view}
@@ -38,6 +39,11 @@ text_found file t x m same utf8 (spelled, sound, meant, answered) = (
     answered = answered;
   },
 )
+
+-- the root of a text without a fault
+pub root_found : (file : SourceFile) (t : List ℕ) (x : Element) → t ≡ file.bytes → IsUtf8 t → Spells x (chars t) × (faults x ≡ []) → IsRootOf file (Ok x)
+root_found file t x same utf8 (spelled, sound) =
+    (subst (λ (bs : List ℕ). is_utf8 bs ≡ true) same (is_utf8-from_IsUtf8 t utf8), subst (λ (bs : List ℕ). Spells x (chars bs)) same spelled, sound)
 
 -- bytes that are no text
 pub no_text : (file : SourceFile) (at : ℕ) (e : Stop) → (IsUtf8 file.bytes → ⊥) → at ≡ utf8_valid_len file.bytes → IsRefusal e (fault_lines file.path file.bytes at (codes "not UTF-8")) → IsStop e (IsCslRead file)

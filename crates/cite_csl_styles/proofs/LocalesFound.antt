@@ -1,24 +1,32 @@
 -- The locales of files, by what the files were found to be.
-use Rattle.std.proofs.Common.{◌≡◌, ℕ, List, Result, Ok, Err, refl, sym, ap, ◌∙◌, codes}
+use Rattle.std.proofs.Common.{◌≡◌, ℕ, true, List, Result, Ok, Err, refl, sym, ap, ◌∙◌, codes}
+use Rattle.xml_tree.specs.Trees.{Element}
 use Rattle.xml_tree.specs.Views.{element_view}
 use Rattle.xml_tree.specs.declared.tree.Element.{out-Element}
+use Rattle.xml_schema.specs.Faults.{name_of}
 use Rattle.rendering_locale.specs.Locales.{Locale}
+use Rattle.rendering_locale.specs.Views.{locale_view}
 use Rattle.rendering_locale.specs.declared.locale.Locale as code
 use Rattle.csl_nodes.specs.declared.words.Words.{Words}
+use Rattle.csl_words.specs.Elements.{is_called}
 use Rattle.csl_locales.specs.Locales.{locale}
+use Rattle.csl_styles.specs.Files as files
 use Rattle.csl_styles.specs.Views.{csl_view}
 use Rattle.csl_styles.specs.declared.file.Csl.{Csl}
 use Rattle.csl_styles.specs.declared.file.Csl.TheVariants as kinds
-use Rattle.cite_csl_styles.specs.Answers.{IsStop, IsRefusal}
+use Rattle.csl_styles.proofs.Outcomes.{locale_meant}
+use Rattle.cite_csl_styles.specs.Answers.{Answers, IsStop, IsRefusal, Returns}
 use Rattle.cite_csl_styles.specs.Sheets as sheets
-use Rattle.cite_csl_styles.specs.Sheets.{IsCslRead, IsLocale, locale_in, root_lines}
+use Rattle.cite_csl_styles.specs.Sheets.{IsCslRead, IsLocale, IsRootOf, locale_in, root_lines}
 use Rattle.cite_csl_styles.specs.Sources as sources
 use Rattle.cite_csl_styles.specs.Sources.{lines_left}
-use Rattle.cite_csl_styles.specs.Stages.{Lines}
+use Rattle.cite_csl_styles.specs.Stages.{Gives, Lines}
 use Rattle.cite_csl_styles.specs.Views.{found_view, source_view}
 use Rattle.cite_csl_styles.specs.declared.sheets.Found.{Found}
 use Rattle.cite_csl_styles.specs.declared.stop.Stop.{Stop}
 use Rattle.cite_csl_styles.proofs.Founds.{root_refused}
+use Rattle.cite_csl_styles.proofs.Staged.{then_goes_on}
+use Rattle.cite_csl_styles.proofs.Stopped.{answers_weaker}
 
 abbrev localized : Locale → Result Locale Lines
 localized l = Ok l
@@ -39,3 +47,12 @@ pub style_refused : (words : List (List ℕ)) (file : sources.SourceFile) (found
     → IsRefusal e (lines_left (source_view found.file) (out-Element found.root).left (codes "a style is no locale")) → IsStop e (IsLocale words file)
 style_refused words file found e is other said =
     root_refused found (codes "a style is no locale") e (IsLocale words file) said (Ok (found_view found), is, sym (no_locale words (found_view found) found.means other))
+
+-- a root that is a locale
+pub root_localized : (words : List (List ℕ)) (file : sources.SourceFile) (root : Element) (r : Result code.Locale Stop) → IsRootOf file (Ok root) → is_called (codes "locale") (name_of root) ≡ true
+    → Returns locale_view r (Ok (locale words root)) → Answers locale_view r (IsLocale words file)
+root_localized words file root r (is_text, spelled, sound) is made =
+    let found : sheets.Found = record { file = file; root = root; means = files.localized root } in
+    let read : IsCslRead file (Ok found) = (refl, record { is_text = is_text; spelled = spelled; sound = sound; meant = sym (locale_meant root is); answered = refl }) in
+    then_goes_on locale_view r (IsCslRead file) (λ (f : sheets.Found). Gives (locale_in words f f.means)) found read
+    (answers_weaker locale_view r (λ a. Ok (locale words root) ≡ a) (Gives (locale_in words found found.means)) (λ a so. sym so) made)

@@ -52,6 +52,11 @@ abbrev pub IsCslRead : SourceFile → Result Found Lines → Type 0
 IsCslRead file (Ok f) = (f.file ≡ file) × IsFound f
 IsCslRead file (Err lines) = IsNoText file lines ⊎ IsTextRefused file lines
 
+-- the root of a file: its text spells it, and it has no fault, whatever it means; the file may mean nothing
+abbrev pub IsRootOf : SourceFile → Result Element Lines → Type 0
+IsRootOf file (Ok x) = (is_utf8 file.bytes ≡ true) × Spells x (chars file.bytes) × (faults x ≡ [])
+IsRootOf file (Err lines) = IsNoText file lines ⊎ IsTextRefused file lines
+
 -- A style that is found: where it was read; the words of terms that no list has; the language that a dependent style is for. What it asks for and
 -- is not carried out is by its tree.
 pub record Sheet : Type 0 where

@@ -16,7 +16,7 @@ pub use features::{feature_lines, term_lines};
 pub use joined_faults::JoinedFaults;
 pub use locales::locales_of;
 pub use parents::{ParentPaths, parent_paths, paths_for};
-pub use sheets::{Found, Sheet, found_at, sheet_of};
+pub use sheets::{Found, Sheet, found_at, found_in, sheet_of};
 pub use sources::{
     SourceFile, file_at, files_at, joined, line, lines_at, push_lines_left, refused, refused_at,
     unread_lines,

@@ -1,24 +1,48 @@
 //! Locales that are asked for.
 
-ghost use Rattle.std.specs.Prelude.{map, OnOk, string_bytes};
+ghost use Rattle.std.specs.Prelude.{map, Ok, OnOk, string_bytes};
 ghost use Rattle.rendering_locale.specs.Views.{locale_view};
+ghost use Rattle.xml_tree.specs.Views.{element_view};
 ghost use Rattle.csl_nodes.specs.Views.{words_view};
-ghost use Rattle.cite_csl_styles.specs.Answers.{Answers};
+ghost use Rattle.csl_locales.specs.Locales.{locale};
+ghost use Rattle.cite_csl_styles.specs.Answers.{Answers, Returns};
 ghost use Rattle.cite_csl_styles.specs.Sheets.{AreLocales, IsLocale};
 ghost use Rattle.cite_csl_styles.specs.Stages.{Adds, Each};
 ghost use Rattle.cite_csl_styles.specs.Views.{source_view, sources_view};
 
-use crate::sheets::found_at;
+use crate::sheets::{found_at, root_at};
 use crate::sources::{SourceFile, refused_left};
 use crate::stop::Stop;
 use cite_styles::english;
 use csl_nodes::Words;
 use csl_styles::Csl;
+use csl_words::is_called;
 use rendering_locale::Locale;
 use std::alloc::{AllocError, Global};
+use xml_tree::Element;
 
-/// The locale that a file is, by the words of a style.
+/// The locale of a root, by the words of a style.
+fn localized(alloc: Global, words: &Words, root: &Element<'_>) -> Result<Locale, Stop>
+    ensures { Returns locale_view result
+        (Ok (locale (words_view words.now) (element_view root.now))) }
+{
+    Ok(csl_locales::locale(alloc, words, root)?)
+}
+
+/// The locale that a file is, by the words of a style. What it means by its own words is not made.
 fn locale_of(alloc: Global, words: &Words, file: SourceFile<'_>) -> Result<Locale, Stop>
+    ensures { Answers locale_view result
+        (IsLocale (words_view words.now) (source_view file.entry)) }
+{
+    let root = root_at(alloc, file)?;
+    if is_called("locale", &root) {
+        return localized(alloc, words, &root);
+    }
+    locale_by_meaning(alloc, words, file)
+}
+
+/// The same, by what the file means.
+fn locale_by_meaning(alloc: Global, words: &Words, file: SourceFile<'_>) -> Result<Locale, Stop>
     ensures { Answers locale_view result
         (IsLocale (words_view words.now) (source_view file.entry)) }
 {

@@ -1,7 +1,8 @@
 //! The style that is asked for.
 
-ghost use Rattle.std.specs.Prelude.{◌≡◌, true, IfNone, IfOk, IfSome};
+ghost use Rattle.std.specs.Prelude.{◌≡◌, true, IfErr, IfNone, IfOk, IfSome};
 ghost use Rattle.std.specs.Option.{option_map};
+ghost use Rattle.std.specs.Str.{IsUtf8};
 ghost use Rattle.programs.specs.Files.{read_at};
 ghost use Rattle.rendering_locale.specs.CodeViews.{code_view};
 ghost use Rattle.rendering_style.specs.StyleViews.{style_view};
@@ -11,10 +12,10 @@ ghost use Rattle.csl_nodes.specs.Views.{words_view};
 ghost use Rattle.csl_styles.specs.Files.{meaning};
 ghost use Rattle.csl_styles.specs.Styles as styles;
 ghost use Rattle.csl_styles.specs.Views.{csl_view, refusal_of};
-ghost use Rattle.cite_csl_styles.specs.Answers.{Answers, IsRefusal, Returns};
+ghost use Rattle.cite_csl_styles.specs.Answers.{Answers, IsRefusal, IsStop, Returns};
 ghost use Rattle.cite_csl_styles.specs.CslLines as said;
 ghost use Rattle.cite_csl_styles.specs.Sheets as specs;
-ghost use Rattle.cite_csl_styles.specs.Sheets.{IsCslRead, IsSheetOf, demotes, orphan_lines, parents_of, readable};
+ghost use Rattle.cite_csl_styles.specs.Sheets.{IsCslRead, IsRootOf, IsSheetOf, demotes, orphan_lines, parents_of, readable};
 ghost use Rattle.cite_csl_styles.specs.Sources as sources;
 ghost use Rattle.cite_csl_styles.specs.Views.{found_view, sheet_view, source_view, paths_view};
 ghost use Rattle.cite_csl_styles.specs.declared.stop.Stop.TheVariants.{Memory};
@@ -24,7 +25,7 @@ use crate::parents::{ParentPaths, parent_left};
 use crate::sources::{SourceFile, file_at, path_at, refused_at, refused_left};
 use crate::stop::Stop;
 use csl_nodes::Words;
-use csl_styles::{Csl, CslError, read_tree};
+use csl_styles::{Csl, CslError, read_tree, sound_tree};
 use csl_words::says;
 use programs::FileRead;
 use rendering_locale::LocaleCode;
@@ -68,18 +69,50 @@ fn text_refused(alloc: Global, file: SourceFile<'_>, error: CslError<'_>) -> Sto
     }
 }
 
+/// The text of a file.
+fn text_at<'f>(alloc: Global, file: SourceFile<'f>) -> Result<&'f str, Stop>
+    ensures text { IfOk result (λ t. t.now ≡ file.entry.bytes.now) }
+    ensures utf8 { IfOk result (λ t. IsUtf8 t.now) }
+    ensures stop { IfErr result (λ e. IsStop e (IsCslRead (source_view file.entry))) }
+{
+    match str::from_utf8(file.bytes) {
+        Ok(text) => Ok(text),
+        Err(error) => Err(refused_at(alloc, file, error.valid_up_to(), "not UTF-8")),
+    }
+}
+
 /// What a file is, as one of CSL.
 pub fn found_at<'f>(alloc: Global, file: SourceFile<'f>) -> Result<Found<'f>, Stop>
     ensures { Answers found_view result (IsCslRead (source_view file.entry)) }
 {
-    let text = match str::from_utf8(file.bytes) {
-        Ok(text) => text,
-        Err(error) => return Err(refused_at(alloc, file, error.valid_up_to(), "not UTF-8")),
-    };
+    let text = text_at(alloc, file)?;
     match read_tree(alloc, text) {
         Ok((root, means)) => Ok(Found { file, root, means }),
         Err(error) => Err(text_refused(alloc, file, error)),
     }
+}
+
+/// The root of a file, whatever that means.
+pub(crate) fn root_at<'f>(alloc: Global, file: SourceFile<'f>) -> Result<Element<'f>, Stop>
+    ensures { Answers element_view result (IsRootOf (source_view file.entry)) }
+{
+    let text = text_at(alloc, file)?;
+    match sound_tree(alloc, text) {
+        Ok(root) => Ok(root),
+        Err(error) => Err(text_refused(alloc, file, error)),
+    }
+}
+
+/// What the file at a path is, as one of CSL.
+pub fn found_in<'f>(
+    alloc: Global,
+    files: &'f [FileRead<'_>],
+    path: &'f str,
+) -> Result<Found<'f>, Stop>
+    ensures { Answers found_view result
+        (IsCslRead (sources.file_at (read_at files.entry.now) path.entry.now)) }
+{
+    found_at(alloc, file_at(files, path))
 }
 
 /// Whether the particles of names go behind given names where names are sorted.

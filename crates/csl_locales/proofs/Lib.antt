@@ -3,3 +3,4 @@ pub mod Unlisted
 pub mod Texts
 pub mod Opened
 pub mod Weights
+pub mod OrdinalWords

@@ -4,7 +4,7 @@ use Rattle.std.specs.List.{list_any}
 use Rattle.std.specs.Option.{option_map, option_map_or}
 use Rattle.xml_tree.specs.Trees.{Element}
 use Rattle.rendering_locale.specs.Locales.{OrdinalEnding, Ordinals}
-use Rattle.csl_words.specs.Looking.{table, value_by, says}
+use Rattle.csl_words.specs.Looking.{table, in_table, value_by, says}
 use Rattle.csl_words.specs.declared.terms.TheConstants.{GENDERS, ORDINAL_MATCHES}
 use Rattle.csl_locales.specs.Terms.{term_text}
 use Rattle.csl_locales.specs.declared.ordinals.TheConstants.{ORDINALS}
@@ -12,6 +12,10 @@ use Rattle.csl_locales.specs.declared.ordinals.TheConstants.{ORDINALS}
 -- a term is the ending of all numbers that have no other
 abbrev pub is_default : Element → Bool
 is_default e = says (codes "name") (codes "ordinal") e
+
+-- the number of a word
+abbrev pub number_of : List ℕ → Option ℕ
+number_of word = in_table (table ORDINALS.now) word
 
 -- the number whose ending a term is, if it is one
 abbrev pub ordinal_number : Element → Option ℕ

@@ -1,17 +1,18 @@
 //! Endings of ordinal numbers.
 
-ghost use Rattle.std.specs.Prelude.{◌≡◌, ◌++◌, [], map, filter_map, IfOk, OnOk};
+ghost use Rattle.std.specs.Prelude.{◌≡◌, ◌==◌, ◌++◌, [], length, map, filter_map, IfOk, OnOk};
 ghost use Rattle.std.specs.Option.{option_map, option_map_or, option_to_list};
-ghost use Rattle.laws.specs.Text.{characters};
+ghost use Rattle.std.specs.Str.{chars};
+ghost use Rattle.laws.specs.Text.{characters, text as text_of};
 ghost use Rattle.std.specs.List.{find, list_any};
 ghost use Rattle.xml_tree.specs.Views.{element_view};
 ghost use Rattle.rendering_locale.specs.Views.{ending_view, ordinals_view};
 ghost use Rattle.csl_locales.specs.Terms.{terms_of};
-ghost use Rattle.csl_locales.specs.Endings.{is_default, ordinal_number, is_ordinal, ending_text, ending, ordinals_of};
+ghost use Rattle.csl_locales.specs.Endings.{is_default, number_of, ordinal_number, is_ordinal, ending_text, ending, ordinals_of};
 
 use crate::ordinals::ORDINALS;
 use crate::terms::{term_text, terms_of};
-use csl_words::{GENDERS, ORDINAL_MATCHES, says, value_by};
+use csl_words::{GENDERS, ORDINAL_MATCHES, attribute, in_table, says, value_by};
 use rendering_locale::{OrdinalEnding, Ordinals};
 use std::alloc::{AllocError, Global};
 use texts::empty_text;
@@ -24,11 +25,39 @@ fn is_default(element: &Element<'_>) -> bool
     says("name", "ordinal", element)
 }
 
+/// Whether a word is as long as all of those of numbers.
+fn is_as_long(word: &str) -> bool
+    ensures { result ≡ (length word.now == 10) }
+{
+    word.len() == 10
+}
+
+/// The number of a word.
+fn number_of(word: &str) -> Option<u8>
+    ensures { result ≡ number_of word.now }
+{
+    if is_as_long(word) {
+        return in_table(ORDINALS, word);
+    }
+    None
+}
+
+/// The same of a text of a tree.
+#[tactic(auto, using(laws::proofs::Text::text_of_chars))]
+fn number_named(name: &str) -> Option<u8>
+    ensures { result ≡ number_of (text_of (chars name.now)) }
+{
+    number_of(name)
+}
+
 /// The number whose ending a term is.
 fn ordinal_number(element: &Element<'_>) -> Option<u8>
     ensures { result ≡ ordinal_number (element_view element.now) }
 {
-    value_by(ORDINALS, "name", element)
+    match attribute("name", element) {
+        Some(name) => number_named(name),
+        None => None,
+    }
 }
 
 /// Whether a term is an ending.

@@ -141,8 +141,8 @@ pub fn nodes_inside(
     ensures { IfOk result (λ v. map node_view v.items
         ≡ nodes_in (words_view unlisted.now) (content_in (element_view element.now))) }
 {
-    let mut nodes = Vec::new(alloc);
     let children = children_of(element);
+    let mut nodes = Vec::with_capacity(alloc, children.len())?;
     for child in children {
         let node = node_of(alloc, unlisted, &child.1)?;
         push_if(&mut nodes, node)?;
@@ -200,8 +200,8 @@ fn branches_in(
     ensures { IfOk result (λ v. map branch_view v.items
         ≡ branches_in (words_view unlisted.now) (content_in (element_view element.now))) }
 {
-    let mut branches = Vec::new(alloc);
     let children = children_of(element);
+    let mut branches = Vec::with_capacity(alloc, children.len())?;
     for child in children {
         let branch = branch_of(alloc, unlisted, &child.1)?;
         push_if(&mut branches, branch)?;

@@ -34,7 +34,10 @@ fn number_variable(word: &str) -> Option<Variable>
 pub(crate) fn printed_variable(word: &str) -> Option<Variable>
     ensures { result ≡ printed_variable word.now }
 {
-    text_variable(word).or(number_variable(word))
+    match text_variable(word) {
+        Some(variable) => Some(variable),
+        None => number_variable(word),
+    }
 }
 
 /// The variable of people.
@@ -61,14 +64,20 @@ fn date_variable(word: &str) -> Option<Variable>
 fn other_variable(word: &str) -> Option<Variable>
     ensures { result ≡ option_or (name_variable word.now) (date_variable word.now) }
 {
-    name_variable(word).or(date_variable(word))
+    match name_variable(word) {
+        Some(variable) => Some(variable),
+        None => date_variable(word),
+    }
 }
 
 /// The variable of a word.
 pub fn variable_of(word: &str) -> Option<Variable>
     ensures { result ≡ variable_of word.now }
 {
-    printed_variable(word).or(other_variable(word))
+    match printed_variable(word) {
+        Some(variable) => Some(variable),
+        None => other_variable(word),
+    }
 }
 
 /// The term of a variable.
@@ -118,13 +127,46 @@ fn date_term(word: &str) -> Option<Term>
     in_table(DATE_TERMS, word)
 }
 
-/// The term of a word that some list has.
+/// The term of another word, of a month or of a season.
+fn last_term(word: &str) -> Option<Term>
+    ensures { result ≡ option_or (other_term word.now) (date_term word.now) }
+{
+    match other_term(word) {
+        Some(term) => Some(term),
+        None => date_term(word),
+    }
+}
+
+/// The term of a kind, or of those.
+fn later_term(word: &str) -> Option<Term>
+    ensures { result ≡ option_or (kind_term word.now)
+        (option_or (other_term word.now) (date_term word.now)) }
+{
+    match kind_term(word) {
+        Some(term) => Some(term),
+        None => last_term(word),
+    }
+}
+
+/// The term of a word that names no variable.
+fn plain_term(word: &str) -> Option<Term>
+    ensures { result ≡ option_or (locator_term word.now) (option_or (kind_term word.now)
+        (option_or (other_term word.now) (date_term word.now))) }
+{
+    match locator_term(word) {
+        Some(term) => Some(term),
+        None => later_term(word),
+    }
+}
+
+/// The term of a word that some list has. The lists are looked through up to the one that has it.
 pub fn listed_term(word: &str) -> Option<Term>
     ensures { result ≡ listed_term word.now }
 {
-    let last = other_term(word).or(date_term(word));
-    let later = locator_term(word).or(kind_term(word).or(last));
-    variable_term(word).or(later)
+    match variable_term(word) {
+        Some(term) => Some(term),
+        None => plain_term(word),
+    }
 }
 
 /// The term of a word, where these are the words of terms that no list has: such a word is known by its place among them. The words of a

@@ -1,8 +1,11 @@
 -- What functions of this crate return, against what trees mean and why they are refused. Memory may run out at any time, which is no refusal.
 use Rattle.std.specs.Prelude.{◌≡◌, ℕ, List, [], Option, Some, None, Result, Ok, Err, IfSome}
 use Rattle.xml_tree.specs.Trees as trees
+use Rattle.xml_tree.specs.Grammar.{Spells}
+use Rattle.xml_tree.specs.Views.{element_view}
 use Rattle.xml_tree.specs.declared.error.TreeError.{TreeError}
 use Rattle.xml_tree.specs.declared.error.TreeError.TheVariants as tree_errors
+use Rattle.xml_tree.specs.declared.tree.Element.{Element}
 use Rattle.rendering_style.specs.Opening as styles
 use Rattle.rendering_style.specs.Opening.{IsAnswer}
 use Rattle.rendering_style.specs.Styles as styled
@@ -11,7 +14,7 @@ use Rattle.rendering_style.specs.declared.style.Style.{Style}
 use Rattle.csl_styles.specs.Faults.{faults}
 use Rattle.csl_styles.specs.Files as files
 use Rattle.csl_styles.specs.Files.{Independent, meaning}
-use Rattle.csl_styles.specs.Reading.{Refusal, OfText, OfTree, OfStyle, blamed, IsAnswered, IsFirstFault}
+use Rattle.csl_styles.specs.Reading.{Refusal, OfText, OfTree, OfStyle, blamed, IsAnswered, IsFirstFault, IsRefused}
 use Rattle.csl_styles.specs.Views.{csl_view, refusal_of}
 use Rattle.csl_styles.specs.declared.error.CslError.{CslError}
 use Rattle.csl_styles.specs.declared.error.CslError.TheVariants as errors
@@ -52,3 +55,8 @@ IsTreeRefused t x (OfStyle r left) = (faults x ≡ []) × IsAnswered (meaning x)
 abbrev pub IsChecked : List ℕ → trees.Element → Result Csl CslError → Type 0
 IsChecked t x (Ok c) = (faults x ≡ []) × (csl_view c ≡ meaning x) × IsAnswered (meaning x) None
 IsChecked t x (Err e) = IfSome (refusal_of e) (IsTreeRefused t x)
+
+-- the tree of a text, which has no fault, or why the text is refused
+abbrev pub IsSound : List ℕ → Result Element CslError → Type 0
+IsSound t (Ok x) = Spells (element_view x) t × (faults (element_view x) ≡ [])
+IsSound t (Err e) = IfSome (refusal_of e) (IsRefused t)

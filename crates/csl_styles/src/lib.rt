@@ -26,5 +26,5 @@ pub use meanings::{
     each_text_is_refused_in_one_way, each_text_means_one_file, info_says_categories_and_parent,
     no_text_is_both,
 };
-pub use reading::{read, read_tree};
+pub use reading::{read, read_tree, sound_tree};
 pub use styles::style;

@@ -19,7 +19,7 @@ ghost use Rattle.csl_styles.specs.Faults.{faults, macro_name, is_macro, wrong_le
 ghost use Rattle.csl_styles.specs.Files as files;
 ghost use Rattle.csl_styles.specs.Files.{meaning, style_by};
 ghost use Rattle.csl_styles.specs.Reading.{blamed, IsAnswered, Means, MeansBy, IsRefused, OfTree};
-ghost use Rattle.csl_styles.specs.Outcomes.{IsPlaced, IsBuilt, IsReadAs, IsChecked, text_error};
+ghost use Rattle.csl_styles.specs.Outcomes.{IsPlaced, IsBuilt, IsReadAs, IsChecked, IsSound, text_error};
 ghost use Rattle.csl_styles.specs.Views.{csl_view, fault_view, refusal_of, wrong_view};
 
 use crate::error::CslError;
@@ -201,6 +201,32 @@ fn text_error<'s>(error: TreeError) -> CslError<'s>
     match error {
         TreeError::Memory => CslError::Memory,
         TreeError::Fault { fault, left } => CslError::Text { fault, left },
+    }
+}
+
+/// The tree of a text, unless it has a fault.
+fn sound<'s>(alloc: Global, text: &str, root: Element<'s>) -> Result<Element<'s>, CslError<'s>>
+    requires { Spells (element_view root) (chars text.now) }
+    ensures { IsSound (chars text.now) result }
+{
+    match first_fault(alloc, &root)? {
+        Some(fault) => Err(tree_error(alloc, text, fault)),
+        None => Ok(root),
+    }
+}
+
+/// The tree of a text that has no fault by the rules of CSL, whatever it means.
+///
+/// # Errors
+/// `Text` where the text is no XML with namespaces; else `Tree` with the first fault of its tree, at its place. `Memory` where a request for memory
+/// was refused.
+pub fn sound_tree<'s>(alloc: Global, text: &'s str) -> Result<Element<'s>, CslError<'s>>
+    // The text spells the tree, which has no fault; what is refused it refuses for that reason.
+    ensures { IsSound (chars text.now) result }
+{
+    match parse(alloc, text) {
+        Ok(root) => sound(alloc, text, root),
+        Err(error) => Err(text_error(error)),
     }
 }
 

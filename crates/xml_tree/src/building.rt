@@ -1,6 +1,6 @@
 //! Building a tree from tokens, with a stack of the elements that are open.
 
-ghost use Rattle.std.specs.Prelude.{◌≡◌, ◌∷◌, [], nat_lt, length, OnOk, MatchOption, Ok};
+ghost use Rattle.std.specs.Prelude.{◌≡◌, ◌++◌, ◌∷◌, [], nat_lt, length, OnOk, MatchOption, Ok};
 ghost use Rattle.std.specs.Option.{option_map};
 ghost use Rattle.std.specs.Str.{chars};
 ghost use Rattle.laws.specs.Results.{Gives, Leaves};
@@ -26,6 +26,9 @@ use xml_text::{Fault, Name, Placed, Reference, Tag, Token, byte_len, skip_space}
 
 /// At most so many elements are open.
 const MOST_OPEN: usize = 256;
+
+/// An element has room for so many others at first: few have more.
+const FEW_CHILDREN: usize = 2;
 
 /// An element that is open: its start-tag, and what its content has so far.
 #[derive(Drop)]
@@ -146,6 +149,21 @@ fn rooted<'s>(root: Option<Element<'s>>) -> Result<Element<'s>, TreeError>
     }
 }
 
+/// Appends an element that has ended, with the text before it.
+fn push_ended<'s>(
+    children: &mut Vec<(String, Element<'s>)>,
+    before: String,
+    element: Element<'s>,
+) -> Result<(), AllocError>
+    ensures { OnOk result (children.new.items
+        ≡ children.old.items ++ (before, element.entry) ∷ []) }
+{
+    if children.is_empty() {
+        children.reserve_exact(FEW_CHILDREN)?;
+    }
+    Ok(children.push((before, element))?)
+}
+
 impl<'s> Builder<'s> {
     /// Before the first token.
     pub(crate) fn new(alloc: Global) -> Builder<'s>
@@ -204,7 +222,7 @@ impl<'s> Builder<'s> {
             ∷ (state_view self.old).open_ones) (state_view self.old).root) }
     {
         let before = take_text(alloc, &mut outer.text);
-        outer.before.push((before, element))?;
+        push_ended(&mut outer.before, before, element)?;
         self.put_open(outer)
     }
 

@@ -394,7 +394,7 @@ fn expanded<'s>(
         (expanded (over (bindings_view own.now) (scope_of (opens_of opens.now)))
         (values_view values.entry)) }
 {
-    let mut attributes = Vec::new(alloc);
+    let mut attributes = Vec::with_capacity(alloc, values.len())?;
     for value in values {
         push_expanded(alloc, own, opens, &mut attributes, value)?;
     }

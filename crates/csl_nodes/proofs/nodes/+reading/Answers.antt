@@ -1,4 +1,4 @@
-use Rattle.std.proofs.Common.{◌≡◌, map, Some, None, refl, sym, ap, ◌∙◌}
+use Rattle.std.proofs.Common.{◌≡◌, ◌<◌, map, Some, None, refl, sym, ap, ◌∙◌, arith}
 use Rattle.std.proofs.lemmas.Result.{IfOk-weaker}
 use Rattle.xml_tree.specs.Views.{element_view}
 use Rattle.rendering_style.specs.Views.{node_view, branch_view}
@@ -7,6 +7,7 @@ use Rattle.csl_nodes.specs.Nodes.{node_of, nodes_in, branch_of, branches_in}
 use Rattle.csl_nodes.specs.Views.{words_view}
 use Rattle.csl_nodes.proofs.Meant.{means_on, means_all}
 use Rattle.csl_nodes.proofs.Parts.{inside_is, under_found}
+use Rattle.csl_nodes.proofs.Weights.{heft, child_lighter}
 use Rattle.csl_nodes.proofs.nodes.+reading.Goals as goal
 
 pub nodes_inside-loop-child-preserved : goal.nodes_inside-loop-child-preserved
@@ -20,6 +21,13 @@ nodes_inside-returns t c =
     means_all node_view (nodes_in words) (node_of words) (λ t. refl) (λ t e c. refl) c.children_of-children.result.now c.children_of-children.ensures.0 c.loop-child.child-index c.loop-child.nodes.items
     c.loop-child-test.false c.loop-child.invariant
     ∙ sym (ap (nodes_in words) c.children_of-children.ensures.1)
+
+pub branches_in-branch_of-requires : goal.branches_in-branch_of-requires
+branches_in-branch_of-requires t c =
+    let l : heft c.child-item.result.1 < heft c.args.element.now =
+    child_lighter (element_view c.args.element.now) c.children_of-children.result.now c.children_of-children.ensures.0 c.loop-child.child-index c.child-item.result
+    c.children_of-children.ensures.1 c.loop-child-test.true c.child-item.is in
+    (omega (arith, l, c.decreases), tt)
 
 pub branches_in-loop-child-preserved : goal.branches_in-loop-child-preserved
 branches_in-loop-child-preserved t c =

@@ -16,7 +16,7 @@ loop-value-init c =
     let e = c.into_iter-value-iterator.ensures.into_iter_gives in
     let scope = over (bindings_view c.args.own.now) (scope_of (opens_of c.args.opens.now)) in
     record {
-      same = λ k. folded (expand scope) (map (placed_view attribute_view) (c.new-attributes.ensures.items k)) (map (placed_view valued_view) (e.0 k));
+      same = λ k. folded (expand scope) (map (placed_view attribute_view) (c.in_ok-attributes.ensures.items k)) (map (placed_view valued_view) (e.0 k));
       long = e.1 ∙ (c.args.values.ok.0 ∙ sym (ap length e.0));
     }
 
@@ -35,7 +35,7 @@ loop-value-preserved c =
 
 pub returns-in_err-push_expanded : goal.returns-in_err-push_expanded
 returns-in_err-push_expanded c =
-    let p = err_from_is_err_and c.from_residual.result c.from_residual.ensures.1 in
+    let p = err_from_is_err_and c.from_residual-in_err-push_expanded.result c.from_residual-in_err-push_expanded.ensures.1 in
     let view = placed_view valued_view in
     let scope = over (bindings_view c.args.own.now) (scope_of (opens_of c.args.opens.now)) in
     let iter = into_iter_items c.loop-value.value-iterator in
