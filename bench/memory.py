@@ -39,13 +39,13 @@ def long_field():
 
 def chapters():
     """Chapters of one book."""
-    lines = [f"@inbook{{k{place}, crossref={{b}}, title={{T{place}}}}}\n" for place in range(WORKS)]
+    lines = [f"@inbook{{k{place}, author={{N{place}}}, crossref={{b}}, title={{T{place}}}}}\n" for place in range(WORKS)]
     return "".join(lines) + "@book{b, title={B}, date={2014}, " + long_field() + "}\n"
 
 
 def abbreviated(fields):
     """Books of these fields, by an abbreviation."""
-    return "@string{s = {" + "s" * LENGTH + "}}\n" + "".join(f"@book{{k{place}, {fields}}}\n" for place in range(WORKS))
+    return "@string{s = {" + "s" * LENGTH + "}}\n" + "".join(f"@book{{k{place}, author={{N{place}}}, {fields}}}\n" for place in range(WORKS))
 
 
 def markers(count):
