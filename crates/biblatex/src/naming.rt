@@ -4,7 +4,7 @@ ghost use Rattle.std.specs.Prelude.{◌≡◌, ℕ, ◌++◌, List, None, map, s
 ghost use Rattle.std.specs.Bool.{OnTrue};
 ghost use Rattle.std.specs.Cmp.Lexicographic.{slice_cmp};
 ghost use Rattle.std.specs.Ordering.{nat_cmp};
-ghost use Rattle.biblatex_entries.specs.Entries.{sources_view};
+ghost use Rattle.biblatex_entries.specs.Entries.{names_of, source_view, sources_view};
 ghost use Rattle.biblatex.specs.Indices.{meaning_in, names_in, name_of, AreSorted, AreInOrder};
 ghost use Rattle.biblatex.specs.Naming as specs;
 ghost use Rattle.biblatex.specs.Naming.{numbered, names_from, equal_names, bound_each, is_below, is_key_of, is_apart, are_apart};
@@ -14,6 +14,7 @@ use biblatex_entries::Entry;
 use biblatex_writing::has_key;
 use std::alloc::{AllocError, Global};
 use std::cmp::Ordering;
+use texts::owned;
 
 /// Appends names of the entry at an index.
 fn append_names(
@@ -30,14 +31,29 @@ fn append_names(
     Ok(())
 }
 
+/// Appends the names of an entry at an index.
+fn append_names_of(
+    alloc: Global,
+    names: &mut Vec<NamedIndex>,
+    entry: &Entry,
+    index: usize,
+) -> Result<(), AllocError>
+    ensures { OnOk result (names_in names.new.items
+        ≡ names_in names.old.items ++ numbered (names_of (source_view entry.now)) index) }
+{
+    let key = owned(alloc, entry.key.as_str())?;
+    names.push(NamedIndex::new(key, index))?;
+    let more = entry.aliases(alloc)?;
+    append_names(names, more, index)
+}
+
 /// The names of entries, in the order of the entries.
 fn names_listed(alloc: Global, entries: &[Entry]) -> Result<Vec<NamedIndex>, AllocError>
     ensures { IfOk result (λ v. names_in v.items ≡ names_from 0 (sources_view entries.now)) }
 {
     let mut names = Vec::with_capacity(alloc, entries.len())?;
     for index in 0..entries.len() {
-        let more = entries[index].names(alloc)?;
-        append_names(&mut names, more, index)?;
+        append_names_of(alloc, &mut names, &entries[index], index)?;
     }
     Ok(names)
 }

@@ -5,9 +5,12 @@ pub mod OrdinaryPieces
 pub mod PartedNeighbours
 pub mod PartedShapes
 pub mod OrdinaryPlain
+pub mod OrdinaryRuns
+pub mod OrdinaryStreams
 pub mod SpansForgotten
 pub mod SpansReached
 pub mod TidyTexts
+pub mod TidyBytes
 pub mod TidySpans
 pub mod WritingCases
 pub mod WritingPieces

@@ -1,21 +1,28 @@
 -- A piece of plain characters gives them as they are.
-use Rattle.std.proofs.Common.{◌≡◌, ℕ, Bool, true, false, cond, ◌||◌, eqb, List, [], ◌∷◌, ◌++◌, Some, Result, Ok, refl, ap, ◌∙◌}
+use Rattle.std.proofs.Common.{◌≡◌, ℕ, ◌<◌, Bool, true, false, true≢false, cond, not, ◌&&◌, ◌||◌, eqb, List, [], ◌∷◌, ◌++◌, Some, Result, Ok, refl, sym, ap, ◌∙◌, arith}
+use Rattle.std.specs.Prelude.{encode_utf8}
+use Rattle.std.specs.List.{list_all}
+use Rattle.std.specs.Str.{chars, IsUtf8}
+use Rattle.std.proofs.lemmas.Bool.{eqb-true}
 use Rattle.std.proofs.lemmas.List.{append-nil}
-use Rattle.laws.specs.Characters.{dollar_sign, hyphen, open_brace, close_brace, tilde}
+use Rattle.std.proofs.lemmas.List.Folds.{list_all-append}
+use Rattle.std.proofs.lemmas.Str.{encode_ascii}
+use Rattle.laws.specs.Characters.{dollar_sign, hyphen, backslash, open_brace, close_brace, tilde}
+use Rattle.laws.specs.Text.{text}
+use Rattle.laws.proofs.Text.{text_of_chars}
 use Rattle.laws.specs.Results.{◌>>=◌}
 use Rattle.laws.specs.Runs.{prefix_of, after}
 use Rattle.laws.proofs.Runs.{prefix-after}
 use Rattle.laws.proofs.Steps.{each-none, each-some}
-use Rattle.biblatex_tex.specs.Character.{passes}
+use Rattle.biblatex_tex.specs.Character.{is_plain, passes}
 use Rattle.biblatex_tex.specs.declared.character.Class.TheVariants.{Plain}
 use Rattle.biblatex_content.specs.declared.chunk.Kind.TheVariants.{Normal}
 use Rattle.biblatex_tex.specs.declared.error.ContentError.{ContentError}
 use Rattle.biblatex_content.specs.Styled.{letters}
 use Rattle.biblatex_tex.specs.Token.{Token, Text, token_at, tokens_of, paired_of}
 use Rattle.biblatex_content.specs.Ordinary.{ordinary, step}
-use Rattle.laws.specs.Text.{is_filled}
 use Rattle.biblatex_tex.proofs.TokenLexing.{tokens_shorten}
-use Rattle.biblatex_content.proofs.Tests.{not_true}
+use Rattle.biblatex_content.proofs.Tests.{first_of_two, second_of_two, not_true}
 
 first_no : (a b : Bool) → a || b ≡ false → a ≡ false
 first_no true b e = e
@@ -67,7 +74,36 @@ unfolding ordinary paired_of step
 ordinary_plain [] e = rw tokens_of-nil refl
 ordinary_plain (c ∷ cs) e = rw (tokens_of-plain c cs e) refl
 
--- an empty rest of a piece
-pub nothing_filled : (cs : List ℕ) → is_filled cs ≡ false → cs ≡ []
-nothing_filled [] e = refl
-nothing_filled (c ∷ cs) e = absurd cc
+-- one of the characters that begin more is a byte of a text that it is in
+begins_more : (c v : ℕ) → v < 128 → is_plain v ≡ false → eqb c v ≡ true → list_all is_plain (encode_utf8 c) ≡ false
+begins_more c v low none e =
+    ap (λ (x : ℕ). list_all is_plain (encode_utf8 x)) (eqb-true c v e) ∙ (ap (list_all is_plain) (encode_ascii v low) ∙ ap (λ (b : Bool). b && true) none)
+
+not_plain : (c : ℕ) → is_plain c ≡ false → list_all is_plain (encode_utf8 c) ≡ false
+not_plain c e = by_tests (eqb c backslash) (eqb c open_brace) (eqb c close_brace) (eqb c dollar_sign) (eqb c tilde) (eqb c hyphen) refl refl refl refl refl refl e
+  where
+    by_tests : (k l m n o p : Bool) → eqb c backslash ≡ k → eqb c open_brace ≡ l → eqb c close_brace ≡ m → eqb c dollar_sign ≡ n → eqb c tilde ≡ o → eqb c hyphen ≡ p
+        → not (k || l || m || n || o || p) ≡ false → list_all is_plain (encode_utf8 c) ≡ false
+    by_tests true l m n o p e1 e2 e3 e4 e5 e6 h = begins_more c backslash (omega arith) refl e1
+    by_tests false true m n o p e1 e2 e3 e4 e5 e6 h = begins_more c open_brace (omega arith) refl e2
+    by_tests false false true n o p e1 e2 e3 e4 e5 e6 h = begins_more c close_brace (omega arith) refl e3
+    by_tests false false false true o p e1 e2 e3 e4 e5 e6 h = begins_more c dollar_sign (omega arith) refl e4
+    by_tests false false false false true p e1 e2 e3 e4 e5 e6 h = begins_more c tilde (omega arith) refl e5
+    by_tests false false false false false true e1 e2 e3 e4 e5 e6 h = begins_more c hyphen (omega arith) refl e6
+    by_tests false false false false false false e1 e2 e3 e4 e5 e6 h = absurd (true≢false h)
+
+all_plain : (cs : List ℕ) → list_all is_plain (text cs) ≡ true → after (passes Plain) cs ≡ []
+unfolding passes
+all_plain [] e = refl
+all_plain (c ∷ cs) e =
+    let each : list_all is_plain (encode_utf8 c) && list_all is_plain (text cs) ≡ true = sym (list_all-append is_plain (encode_utf8 c) (text cs)) ∙ e in
+    by_test (is_plain c) refl (first_of_two (list_all is_plain (encode_utf8 c)) (list_all is_plain (text cs)) each)
+    (all_plain cs (second_of_two (list_all is_plain (encode_utf8 c)) (list_all is_plain (text cs)) each))
+  where
+    by_test : (b : Bool) → is_plain c ≡ b → list_all is_plain (encode_utf8 c) ≡ true → after (passes Plain) cs ≡ [] → cond b (after (passes Plain) cs) (c ∷ cs) ≡ []
+    by_test true is here more = more
+    by_test false is here more = absurd (true≢false (sym here ∙ not_plain c is))
+
+-- each character of a text is plain where each byte of it is
+pub plain_bytes : (bs : List ℕ) → IsUtf8 bs → list_all is_plain bs ≡ true → after (passes Plain) (chars bs) ≡ []
+plain_bytes bs u e = all_plain (chars bs) (ap (list_all is_plain) (text_of_chars bs u) ∙ e)

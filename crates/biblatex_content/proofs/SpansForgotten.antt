@@ -1,5 +1,5 @@
 -- Members with spans and without them.
-use Rattle.std.proofs.Common.{◌≡◌, ℕ, Bool, true, false, cond, List, [], ◌∷◌, ◌++◌, map, refl, ap, ◌∙◌}
+use Rattle.std.proofs.Common.{◌≡◌, ℕ, Bool, true, false, cond, List, [], ◌∷◌, ◌++◌, map, refl, sym, ap, ◌∙◌}
 use Rattle.std.proofs.lemmas.List.{map-append}
 use Rattle.biblatex_text.specs.Raw.{At}
 use Rattle.biblatex_text.specs.declared.spanned.Spanned.{Spanned}
@@ -7,7 +7,7 @@ use Rattle.biblatex_content.specs.declared.chunk.Chunk.{Chunk}
 use Rattle.biblatex_content.specs.declared.contents.Contents.{Contents}
 use Rattle.biblatex_content.specs.Styled.{Member}
 use Rattle.biblatex_content.specs.Tidy.{spaced, is_space, squeezed, without_last_space, tidied}
-use Rattle.biblatex_content.specs.Spans.{all_at, without_spans, spanned, spanned_in, spanned_so_far, spaced_at, squeezed_at, without_last_space_at, tidied_at}
+use Rattle.biblatex_content.specs.Spans.{all_at, without_spans, spanned, spanned_in, placed, spanned_so_far, spaced_at, squeezed_at, without_last_space_at, tidied_at}
 use Rattle.biblatex_content.specs.Views.{members, styled, so_far}
 
 -- members that were given a span are the same without it
@@ -53,3 +53,14 @@ tidied_forgotten ms = last_forgotten (squeezed_at true (map spaced_at ms)) ∙ a
 -- members of two lists with one span are those of each
 pub at_append : (start end : ℕ) (ms ns : List Member) → all_at start end (ms ++ ns) ≡ all_at start end ms ++ all_at start end ns
 at_append start end ms ns = map-append (λ (m : Member). record { v = m; start = start; end = end }) ms ns
+
+-- chunks that are placed spell what they spelled
+pub placed_styled : (start end : ℕ) (cs : List (Spanned Chunk)) → styled (map (placed start end) cs) ≡ styled cs
+placed_styled start end [] = refl
+placed_styled start end (c ∷ cs) = ap (λ (x : List Member). members c.v ++ x) (placed_styled start end cs)
+
+-- their members have the span where they are placed
+pub placed_spanned : (start end : ℕ) (cs : List (Spanned Chunk)) → spanned (map (placed start end) cs) ≡ all_at start end (styled cs)
+placed_spanned start end [] = refl
+placed_spanned start end (c ∷ cs) =
+    ap (λ (x : List (At Member)). all_at start end (members c.v) ++ x) (placed_spanned start end cs) ∙ sym (at_append start end (members c.v) (styled cs))

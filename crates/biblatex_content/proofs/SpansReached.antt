@@ -95,13 +95,14 @@ apart_kinds Normal Verbatim differ = refl
 apart_kinds Verbatim Normal differ = refl
 apart_kinds Verbatim Verbatim differ = absurd (differ refl)
 
--- characters of one kind with one span are one chunk there
-pub one_span : (kind : Kind) (start end c : ℕ) (cs : List ℕ)
-    → member_spans (all_at start end (letters kind (c ∷ cs))) ≡ (start, end) ∷ []
-one_span kind start end c [] = refl
-one_span kind start end c (d ∷ cs) =
+-- characters of one kind with one span are one chunk there, before what does not go on with them
+pub text_before : (kind : Kind) (start end c : ℕ) (cs : List ℕ) (ms : List (At Member)) → goes_on (Letter kind c) ms ≡ false
+    → member_spans (all_at start end (letters kind (c ∷ cs)) ++ ms) ≡ (start, end) ∷ member_spans ms
+text_before kind start end c [] ms apart = ap (λ (goes : Bool). before goes (letter kind c start end) (member_spans ms)) apart
+text_before kind start end c (d ∷ cs) ms apart =
     let h : max end end ≡ end = omega arith in
-    rw (alike kind, one_span kind start end d cs, h) refl
+    ap (λ (goes : Bool). before goes (letter kind c start end) (member_spans (all_at start end (letters kind (d ∷ cs)) ++ ms))) (alike kind)
+    ∙ (ap (before true (letter kind c start end)) (text_before kind start end d cs ms (goes_on_same kind d c ms ∙ apart)) ∙ ap (λ (x : ℕ). (start, x) ∷ member_spans ms) h)
 
 -- a text of the kind that a content has turned to
 pub reached_text : (turned old : Joining) (kind : Kind) (start end : ℕ) (cs : List ℕ) (ms : List (At Member)) → turned.kind ≡ kind → is_filled cs ≡ true

@@ -185,6 +185,18 @@ ended_in mode fs done = Err MalformedCommand
 abbrev pub begun : List Member → State
 begun done = record { done = done; kind = Normal; frames = []; marks = []; mode = Free; math = [] }
 
+-- whether a token is a text or a run of hyphens
+abbrev pub is_run : Token → Bool
+is_run (Text cs) = true
+is_run (Hyphens cs) = true
+is_run t = false
+
+-- what such a token gives outside groups
+abbrev pub shown : Token → List ℕ
+shown (Text cs) = cs
+shown (Hyphens cs) = dashes (length cs)
+shown t = []
+
 -- what a piece of an ordinary field gives
 unfoldable pub ordinary : List ℕ → Result (List Member) ContentError
 ordinary cs = do

@@ -34,6 +34,10 @@ spanned_in c = all_at c.span.start c.span.end (members c.v)
 abbrev pub spanned : List (Spanned Chunk) → List (At Member)
 spanned cs = flat_map spanned_in cs
 
+-- a chunk at a span
+abbrev pub placed : ℕ → ℕ → Spanned Chunk → Spanned Chunk
+placed start end c = record { v = c.v; span = record { start = start; end = end } }
+
 -- the members that have been read, each with the span of its piece
 abbrev pub spanned_so_far : Contents → List (At Member)
 spanned_so_far c = spanned c.chunks.items

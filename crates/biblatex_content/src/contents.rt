@@ -1,12 +1,12 @@
 //! The content of a field while its pieces are read.
 
-ghost use Rattle.std.specs.Prelude.{◌≡◌, ◌↔◌, ◌++◌, [], true, IfOk, IsTrue, OnOk};
+ghost use Rattle.std.specs.Prelude.{◌≡◌, ◌↔◌, ◌++◌, [], true, map, IfOk, IsTrue, OnOk};
 ghost use Rattle.std.specs.Str.{chars};
 ghost use Rattle.biblatex_content.specs.declared.chunk.Kind.TheVariants.{Normal, Verbatim};
 ghost use Rattle.biblatex_content.specs.Styled.{letters};
 ghost use Rattle.biblatex_content.specs.Ordinary.{ordinary};
-ghost use Rattle.biblatex_content.specs.Parted.{are_parted, is_full};
-ghost use Rattle.biblatex_content.specs.Spans.{all_at, spanned_so_far, after_at, tidied_at, chunk_spans, member_spans};
+ghost use Rattle.biblatex_content.specs.Parted.{are_parted};
+ghost use Rattle.biblatex_content.specs.Spans.{all_at, placed, spanned_so_far, after_at, tidied_at, chunk_spans, member_spans};
 ghost use Rattle.biblatex_content.specs.Tidy.{tidied};
 ghost use Rattle.biblatex_content.specs.Verbatim.{verbatim_text};
 ghost use Rattle.biblatex_content.specs.Views.{so_far, styled, members, following};
@@ -15,21 +15,21 @@ ghost use Rattle.laws.specs.Results.{Gives};
 
 use crate::chunk::{Chunk, Chunks, Kind, Span};
 use crate::joining::chunk_of;
-use crate::ordinary::{is_plain, read_ordinary};
+use crate::ordinary::{dashed, is_plain, read_ordinary};
+use crate::parted::is_full;
 use crate::tidy::{are_done, tidy};
 use crate::verbatim::{is_literal, read_verbatim};
 use biblatex_tex::ContentError;
 use biblatex_text::Spanned;
 use std::alloc::{AllocError, Global};
-use texts::has_text;
 
-/// Whether the chunk gives something: it is math, or has a character.
-fn is_full(chunk: &Chunk) -> bool
-    ensures { result ≡ is_full chunk.now }
+/// Gives each of the chunks the span.
+fn place_all(chunks: &mut Chunks, span: &Span)
+    ensures { chunks.new.items ≡ map (placed span.now.start span.now.end) chunks.old.items }
 {
-    match chunk {
-        Chunk::Normal(text) | Chunk::Verbatim(text) => has_text(text.as_str()),
-        Chunk::Math(_) => true,
+    for place in 0..chunks.len() {
+        let chunk = &mut chunks[place];
+        chunk.span = span.start..span.end;
     }
 }
 
@@ -81,14 +81,11 @@ impl Contents {
         ensures styled { OnOk result (so_far self.new ≡ so_far self.old) }
         ensures spanned { OnOk result (spanned_so_far self.new ≡ spanned_so_far self.old) }
     {
-        if self.chunks.is_empty() {
-            return self.chunks.reserve_exact(count);
-        }
         self.chunks.reserve(count)
     }
 
-    /// Appends the chunks of a piece at the span.
-    fn push_chunks(&mut self, span: &Span, chunks: Chunks) -> Result<(), AllocError>
+    /// Appends the chunks of a piece at the span after those of others.
+    fn append_chunks(&mut self, span: &Span, chunks: Chunks) -> Result<(), AllocError>
         ensures styled { OnOk result (so_far self.new ≡ so_far self.old ++ styled chunks.items) }
         ensures spanned { OnOk result (spanned_so_far self.new
             ≡ spanned_so_far self.old ++ all_at span.now.start span.now.end (styled chunks.items)) }
@@ -97,6 +94,20 @@ impl Contents {
         for chunk in chunks {
             self.push_chunk(span, chunk.v)?;
         }
+        Ok(())
+    }
+
+    /// Appends the chunks of a piece at the span. Those of the first piece are not moved.
+    fn push_chunks(&mut self, span: &Span, mut chunks: Chunks) -> Result<(), AllocError>
+        ensures styled { OnOk result (so_far self.new ≡ so_far self.old ++ styled chunks.items) }
+        ensures spanned { OnOk result (spanned_so_far self.new
+            ≡ spanned_so_far self.old ++ all_at span.now.start span.now.end (styled chunks.items)) }
+    {
+        if !self.chunks.is_empty() {
+            return self.append_chunks(span, chunks);
+        }
+        place_all(&mut chunks, span);
+        self.chunks = chunks;
         Ok(())
     }
 
@@ -133,6 +144,30 @@ impl Contents {
             self.push_plain(Kind::Normal, piece)?;
             return Ok(self);
         }
+        self.push_changed(piece)
+    }
+
+    /// The same of a piece of which some characters do not stand for themselves.
+    fn push_changed(mut self, piece: Spanned<&str>) -> Result<Contents, ContentError>
+        ensures read { Gives refusal_of so_far result
+            (following (so_far self) (ordinary (chars piece.entry.v.now))) }
+        ensures spanned { Gives refusal_of spanned_so_far result (after_at piece.entry.span.start
+            piece.entry.span.end (spanned_so_far self) (ordinary (chars piece.entry.v.now))) }
+    {
+        if let Some(text) = dashed(self.alloc, piece.v)? {
+            self.push_chunk(&piece.span, Chunk::Normal(text))?;
+            return Ok(self);
+        }
+        self.push_tokens(piece)
+    }
+
+    /// The same of any piece, token by token.
+    fn push_tokens(mut self, piece: Spanned<&str>) -> Result<Contents, ContentError>
+        ensures read { Gives refusal_of so_far result
+            (following (so_far self) (ordinary (chars piece.entry.v.now))) }
+        ensures spanned { Gives refusal_of spanned_so_far result (after_at piece.entry.span.start
+            piece.entry.span.end (spanned_so_far self) (ordinary (chars piece.entry.v.now))) }
+    {
         let chunks = read_ordinary(self.alloc, piece.v)?;
         self.push_chunks(&piece.span, chunks)?;
         Ok(self)

@@ -40,12 +40,12 @@ pub(crate) fn chunk_of(kind: Kind, text: String) -> Chunk
     }
 }
 
-/// Makes room for a short run in an empty text.
-fn make_room(text: &mut String) -> Result<(), AllocError>
+/// Makes room in an empty text for so many bytes, and for a short run.
+pub(crate) fn make_room(text: &mut String, count: usize) -> Result<(), AllocError>
     ensures { OnOk result (string_bytes text.new ≡ string_bytes text.old) }
 {
     if text.is_empty() {
-        return text.reserve(SHORT_RUN);
+        return text.reserve(count.max(SHORT_RUN));
     }
     Ok(())
 }
@@ -54,7 +54,7 @@ fn make_room(text: &mut String) -> Result<(), AllocError>
 fn push_text_to_run(text: &mut String, more: &str) -> Result<(), AllocError>
     ensures { OnOk result (characters text.new ≡ characters text.old ++ chars more.now) }
 {
-    make_room(text)?;
+    make_room(text, more.len())?;
     push_text(text, more)
 }
 
@@ -62,7 +62,7 @@ fn push_text_to_run(text: &mut String, more: &str) -> Result<(), AllocError>
 fn push_to_run(text: &mut String, c: char) -> Result<(), AllocError>
     ensures { OnOk result (characters text.new ≡ characters text.old ++ c ∷ []) }
 {
-    make_room(text)?;
+    make_room(text, SHORT_RUN)?;
     push_character(text, c)
 }
 
@@ -207,7 +207,7 @@ impl Joining {
         ensures { OnOk result (joined self.new ≡ joined self.old ++ letters kind (chars text.now)) }
     {
         self.turn(kind)?;
-        push_text(&mut self.run, text)
+        push_text_to_run(&mut self.run, text)
     }
 
     /// Appends characters of the kind, of which the first is the last of the list.

@@ -7,6 +7,7 @@ mod copy;
 mod joining;
 mod names;
 mod ordinary;
+mod parted;
 mod tidy;
 mod verbatim;
 mod writing;

@@ -1,31 +1,32 @@
 //! Ordinary fields.
 
-ghost use Rattle.std.specs.Prelude.{◌≡◌, ◌-◌, ◌++◌, ◌∷◌, [], true, IfOk, OnOk, IsOkUnless, if◌then◌else◌, length, reverse};
+ghost use Rattle.std.specs.Prelude.{◌≡◌, ◌-◌, ◌++◌, ◌∷◌, [], not, true, false, IfOk, IfSome, Ok, OnOk, IsOkUnless, if◌then◌else◌, length, reverse};
+ghost use Rattle.std.specs.List.{list_all};
 ghost use Rattle.std.specs.Str.{chars};
 ghost use Rattle.laws.specs.Characters.{hyphen};
 ghost use Rattle.laws.specs.Runs.{after};
 ghost use Rattle.laws.specs.Text.{text, characters};
-ghost use Rattle.biblatex_tex.specs.Character.{passes};
+ghost use Rattle.biblatex_tex.specs.Character.{is_plain, passes};
 ghost use Rattle.biblatex_tex.specs.declared.character.Class.TheVariants.{Plain};
 ghost use Rattle.biblatex_tex.specs.declared.error.ContentError.TheVariants.{Memory};
-ghost use Rattle.biblatex_content.specs.Ordinary.{kept_in, given, marked_after, given_text, text_in, accented, opened, closed_to, closed_in, dollar, dashes, hyphens_in, sign, command, unit, in_math, step, begun, ended_in, ordinary};
+ghost use Rattle.biblatex_content.specs.Ordinary.{kept_in, given, marked_after, given_text, text_in, accented, opened, closed_to, closed_in, dollar, dashes, hyphens_in, sign, command, unit, is_dollar, in_math, step, begun, ended_in, is_run, shown, ordinary};
 ghost use Rattle.biblatex_tex.specs.Command.{sign_mark, letter_mark};
 ghost use Rattle.biblatex_tex.specs.Token.{written};
 ghost use Rattle.biblatex_tex.specs.TokenViews.{token_view};
 ghost use Rattle.biblatex_content.specs.Views.{joined, styled, following};
 ghost use Rattle.biblatex_tex.specs.Results.{refusal_of};
 ghost use Rattle.laws.specs.Results.{Gives, Leaves};
-ghost use Rattle.biblatex_content.specs.OrdinaryViews.{state_view};
+ghost use Rattle.biblatex_content.specs.OrdinaryViews.{state_view, GivesText, GivesJoined};
 ghost use Rattle.biblatex_tex.specs.Results.{refusal_of};
 
 use crate::chunk::{Chunks, Kind};
-use crate::joining::Joining;
+use crate::joining::{Joining, make_room};
 use biblatex_tex::{
-    Class, ContentError, Token, letter_character, letter_mark, paired_tokens, put_marks, reversed,
-    sign_character, sign_mark,
+    Class, ContentError, Lexer, Token, letter_character, letter_mark, paired_tokens, put_marks,
+    reversed, sign_character, sign_mark,
 };
 use std::alloc::{AllocError, Global};
-use texts::{empty_text, has_text, push_character, push_text, split_first, split_run, take_text};
+use texts::{empty_text, push_character, push_text, split_first, split_run, take_text};
 
 /// What comes next.
 #[derive(Clone, Copy)]
@@ -47,12 +48,31 @@ pub(crate) struct Frame {
     mode: Mode,
 }
 
+/// Whether the byte is no character that begins more than itself. All of these are ASCII.
+#[inline(always)]
+fn is_plain_byte(byte: u8) -> bool
+    ensures { result ≡ is_plain byte }
+{
+    !matches!(byte, b'\\' | b'{' | b'}' | b'$' | b'~' | b'-')
+}
+
+/// Whether no byte is such a character.
+fn are_plain(bytes: &[u8]) -> bool
+    ensures { result ≡ list_all is_plain bytes.now }
+{
+    for &byte in bytes {
+        if !is_plain_byte(byte) {
+            return false;
+        }
+    }
+    true
+}
+
 /// Whether each character of the piece stands for itself.
-#[tactic(auto, using(crate::proofs::OrdinaryPlain::nothing_filled))]
 pub(crate) fn is_plain(piece: &str) -> bool
     ensures { result ≡ true → after (passes Plain) (chars piece.now) ≡ [] }
 {
-    !has_text(split_run(piece, Class::Plain).1)
+    are_plain(piece.as_bytes())
 }
 
 /// The number of characters.
@@ -416,6 +436,30 @@ impl Reading {
         self.unit(read)
     }
 
+    /// Reads a token, and says whether it may not stand there.
+    fn refuses(&mut self, read: Token<'_>) -> Result<bool, AllocError>
+        ensures { IfOk result (λ refused. refused ≡ false
+            → step (token_view read.entry) (state_view self.old) ≡ Ok (state_view self.new)) }
+    {
+        match self.step(read) {
+            Ok(()) => Ok(false),
+            Err(ContentError::MalformedCommand) => Ok(true),
+            Err(ContentError::Memory) => Err(AllocError),
+        }
+    }
+
+    /// What was read, if the piece may end.
+    fn whole(self) -> Option<Joining>
+        ensures { IfSome result (λ whole.
+            ended_in self.mode (reverse self.frames.items) (joined self.contents)
+            ≡ Ok (joined whole)) }
+    {
+        match self.end() {
+            Ok(contents) => Some(contents),
+            Err(_) => None,
+        }
+    }
+
     /// What was read, where the piece may end.
     fn end(self) -> Result<Joining, ContentError>
         ensures { Gives refusal_of joined result
@@ -444,10 +488,99 @@ impl Joining {
     }
 }
 
-/// The chunks of a piece of an ordinary field.
+/// Whether no byte is a character that begins more than itself or a run of hyphens. A piece without such is read faster.
+fn may_be_dashed(bytes: &[u8]) -> bool {
+    for &byte in bytes {
+        if matches!(byte, b'\\' | b'{' | b'}' | b'$' | b'~') {
+            return false;
+        }
+    }
+    true
+}
+
+/// Appends what a token gives that is a text or a run of hyphens, and says whether it is another one.
+fn push_run(text: &mut String, read: Token<'_>) -> Result<bool, AllocError>
+    ensures other { IfOk result (λ other. other ≡ not (is_run (token_view read.entry))) }
+    ensures text { IfOk result (λ other. other ≡ false
+        → characters text.new ≡ characters text.old ++ shown (token_view read.entry)) }
+{
+    match read {
+        Token::Text(piece) => {
+            push_text(text, piece)?;
+            Ok(false)
+        }
+        Token::Hyphens(run) => {
+            push_dashes(text, count_of(run))?;
+            Ok(false)
+        }
+        _ => Ok(true),
+    }
+}
+
+/// The text of a piece of an ordinary field that is texts and runs of hyphens alone; none of another one.
+pub(crate) fn dashed(alloc: Global, piece: &str) -> Result<Option<String>, ContentError>
+    ensures { GivesText result (ordinary (chars piece.now)) }
+{
+    if !may_be_dashed(piece.as_bytes()) {
+        return Ok(None);
+    }
+    let mut lexer = Lexer::new(piece);
+    let mut text = empty_text(alloc);
+    make_room(&mut text, piece.len())?;
+    while let Some(token) = lexer.next_token()? {
+        let is_other = push_run(&mut text, token)?;
+        if is_other {
+            return Ok(None);
+        }
+    }
+    Ok(Some(text))
+}
+
+/// Whether the token is a dollar sign.
+fn is_dollar(token: &Token<'_>) -> bool
+    ensures { result ≡ is_dollar (token_view token.now) }
+{
+    match token {
+        Token::Dollar(_) => true,
+        _ => false,
+    }
+}
+
+/// What a piece of an ordinary field gives, token by token; none where a dollar sign is among them, which may have a partner, or one
+/// may not stand where it does.
+fn streamed(alloc: Global, piece: &str) -> Result<Option<Joining>, ContentError>
+    ensures { GivesJoined result (ordinary (chars piece.now)) }
+{
+    let mut lexer = Lexer::new(piece);
+    let mut reading = Reading::new(alloc, Joining::new(alloc));
+    while let Some(token) = lexer.next_token()? {
+        let is_paired = is_dollar(&token);
+        if is_paired {
+            return Ok(None);
+        }
+        let is_refused = reading.refuses(token)?;
+        if is_refused {
+            return Ok(None);
+        }
+    }
+    Ok(reading.whole())
+}
+
+/// The chunks of a piece of an ordinary field, whose dollar signs may have partners.
 #[tactic(auto, using(crate::proofs::OrdinaryPieces::after_nothing))]
-pub(crate) fn read_ordinary(alloc: Global, piece: &str) -> Result<Chunks, ContentError>
+fn read_paired(alloc: Global, piece: &str) -> Result<Chunks, ContentError>
     ensures { Gives refusal_of (λ cs. styled cs.items) result (ordinary (chars piece.now)) }
 {
     Ok(Joining::new(alloc).push_tokens(piece)?.into_chunks()?)
+}
+
+/// The chunks of a piece of an ordinary field. Without dollar signs its tokens are not listed.
+pub(crate) fn read_ordinary(alloc: Global, piece: &str) -> Result<Chunks, ContentError>
+    ensures { Gives refusal_of (λ cs. styled cs.items) result (ordinary (chars piece.now)) }
+{
+    if let Some(read) = streamed(alloc, piece)? {
+        let chunks = read.into_chunks()?;
+        return Ok(chunks);
+    }
+    read_paired(alloc, piece)
 }

@@ -9,12 +9,13 @@ ghost use Rattle.biblatex_tex.specs.Character.{is_blank};
 ghost use Rattle.biblatex_content.specs.Styled.{Member, Letter, Math, letters};
 ghost use Rattle.biblatex_content.specs.Parted.{IsReady};
 ghost use Rattle.biblatex_content.specs.Spans.{all_at, spanned, spanned_in, member_spans, tidied_at, spans_with, owed_at, spans_to_come, AreDone};
-ghost use Rattle.biblatex_content.specs.Tidy.{tidied, is_tidy, is_tidy_text, stays, owed, to_come, EndsTidily};
+ghost use Rattle.biblatex_content.specs.Tidy.{tidied, is_tidy, stays, spaced_after, is_tidy_from, is_tidy_after, owed, to_come, EndsTidily};
 ghost use Rattle.biblatex_content.specs.Views.{joined, styled, members};
 ghost use Rattle.laws.specs.Text.{characters, is_filled};
 
 use crate::chunk::{Chunk, Chunks, Kind, Span};
 use crate::joining::Joining;
+use crate::parted::are_parted;
 use biblatex_tex::is_blank;
 use biblatex_text::Spanned;
 use std::alloc::{AllocError, Global};
@@ -213,13 +214,6 @@ pub(crate) fn tidy(alloc: Global, chunks: Chunks) -> Result<Joining, AllocError>
     Ok(tidying.contents)
 }
 
-/// Whether tidying leaves the character as it is, after a space, or at the start, or not.
-fn stays(is_after_space: bool, c: char) -> bool
-    ensures { result ≡ stays is_after_space c }
-{
-    !is_blank(c) || (c == ' ' && !is_after_space)
-}
-
 /// Where the longest prefix ends that tidying leaves as it is; at the start, where there is none.
 fn tidy_end(text: &str) -> usize
     ensures { EndsTidily text.now result }
@@ -256,36 +250,73 @@ fn split_tidy(text: &str) -> (&str, &str)
     text.split_at(tidy_end(text))
 }
 
-/// Whether tidying leaves the text as it is, where it is not empty.
-pub(crate) fn is_tidy(text: &str) -> bool
-    ensures { result ≡ is_tidy true (chars text.now) }
+/// Whether the byte is a blank, each of which is ASCII.
+#[inline(always)]
+fn is_blank_byte(byte: u8) -> bool
+    ensures { result ≡ is_blank byte }
+{
+    matches!(byte, b' ' | b'\t' | b'\n' | b'\x0c' | b'\r')
+}
+
+/// Whether tidying leaves the byte as it is, after a space, or at the start, or not.
+#[inline(always)]
+fn stays(is_after_space: bool, byte: u8) -> bool
+    ensures { result ≡ stays is_after_space byte }
+{
+    !is_blank_byte(byte) || (byte == b' ' && !is_after_space)
+}
+
+/// Whether a space, or the start, stands after bytes that tidying leaves as they are, where it stands before them or not; none
+/// where it does not.
+fn after_bytes(is_after_space: bool, bytes: &[u8]) -> Option<bool>
+    ensures { result ≡ spaced_after is_after_space bytes.now }
+{
+    let mut is_after = is_after_space;
+    for &byte in bytes {
+        if !stays(is_after, byte) {
+            return None;
+        }
+        is_after = byte == b' ';
+    }
+    Some(is_after)
+}
+
+/// The same of a text.
+fn after_text(is_after_space: bool, text: &str) -> Option<bool>
+    ensures { result ≡ spaced_after is_after_space (chars text.now) }
+{
+    after_bytes(is_after_space, text.as_bytes())
+}
+
+/// The same of a chunk.
+fn after_chunk(is_after_space: bool, chunk: &Chunk) -> Option<bool>
+    ensures { (ms : List Member) → is_tidy_from is_after_space (members chunk.now ++ ms)
+        ≡ is_tidy_after result ms }
+{
+    match chunk {
+        Chunk::Normal(text) => after_text(is_after_space, text.as_str()),
+        Chunk::Verbatim(text) => after_text(is_after_space, text.as_str()),
+        Chunk::Math(_) => Some(false),
+    }
+}
+
+/// Whether tidying leaves the text that the chunks spell as it is, where it is not empty.
+fn are_tidy(chunks: &[Spanned<Chunk>]) -> bool
+    ensures { result ≡ is_tidy_from true (styled chunks.now) }
 {
     let mut is_after_space = true;
-    for c in text.chars() {
-        if !stays(is_after_space, c) {
-            return false;
+    for chunk in chunks {
+        match after_chunk(is_after_space, &chunk.v) {
+            Some(ends) => is_after_space = ends,
+            None => return false,
         }
-        is_after_space = c == ' ';
     }
     !is_after_space
 }
 
-/// Whether the chunk is text that tidying leaves as it is.
-fn is_tidy_text(chunk: &Chunk) -> bool
-    ensures { result ≡ is_tidy_text chunk.now }
-{
-    match chunk {
-        Chunk::Normal(text) | Chunk::Verbatim(text) => is_tidy(text.as_str()),
-        Chunk::Math(_) => false,
-    }
-}
-
-/// Whether the chunks are one text that tidying leaves as it is.
+/// Whether tidying leaves the chunks as they are, where there are any.
 pub(crate) fn are_done(chunks: &[Spanned<Chunk>]) -> bool
     ensures { result ≡ true → AreDone chunks.now }
 {
-    match chunks.split_first() {
-        Some((chunk, rest)) => rest.is_empty() && is_tidy_text(&chunk.v),
-        None => false,
-    }
+    are_parted(chunks) && are_tidy(chunks)
 }

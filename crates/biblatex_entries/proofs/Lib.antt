@@ -1,3 +1,4 @@
 pub mod NamesCommas
+pub mod NamesNothing
 pub mod EntriesPlain
 pub mod TypedStored

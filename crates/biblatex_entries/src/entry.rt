@@ -1,6 +1,6 @@
 //! Entries.
 
-ghost use Rattle.std.specs.Prelude.{◌≡◌, ◌++◌, [], map, IfOk, OnOk, OnErr, string_bytes, codes};
+ghost use Rattle.std.specs.Prelude.{◌≡◌, ◌++◌, [], map, IfOk, OnOk, OnErr, string_bytes, codes, true};
 ghost use Rattle.std.specs.Option.{option_map};
 ghost use Rattle.std.specs.Str.{chars};
 ghost use Rattle.laws.specs.Text.{text as text_of, lowered};
@@ -71,8 +71,8 @@ impl Entry {
     pub fn parents(&self, alloc: Global) -> Result<Vec<String>, AllocError>
         ensures { IfOk result (λ v. map string_bytes v.items ≡ parents_of self.now.fields) }
     {
-        let mut names = name_alone(alloc, field_text(alloc, &self.fields, "crossref")?.as_str())?;
-        let more = names_listed(alloc, field_text(alloc, &self.fields, "xdata")?.as_str())?;
+        let mut names = name_under(alloc, &self.fields, "crossref")?;
+        let more = names_under(alloc, &self.fields, "xdata")?;
         append(&mut names, more)?;
         Ok(names)
     }
@@ -83,10 +83,50 @@ impl Entry {
     {
         let mut names = Vec::new(alloc);
         names.push(self.key.clone()?)?;
-        let more = names_listed(alloc, field_text(alloc, &self.fields, "ids")?.as_str())?;
+        let more = self.aliases(alloc)?;
         append(&mut names, more)?;
         Ok(names)
     }
+
+    /// Its names beside the key: those in `ids`, as `names` has them.
+    pub fn aliases(&self, alloc: Global) -> Result<Vec<String>, AllocError>
+        ensures { IfOk result (λ v. map string_bytes v.items
+            ≡ listed (field_text (codes "ids") self.now.fields)) }
+    {
+        names_under(alloc, &self.fields, "ids")
+    }
+}
+
+/// Whether there is no field of that name; then its text is empty.
+fn lacks(fields: &Fields, name: &str) -> bool
+    ensures { result ≡ true → field_text name.now fields.now ≡ [] }
+{
+    match fields.get(name) {
+        Some(_) => false,
+        None => true,
+    }
+}
+
+/// The one name in the field of that name, if there is one.
+fn name_under(alloc: Global, fields: &Fields, name: &str) -> Result<Vec<String>, AllocError>
+    ensures { IfOk result (λ v. map string_bytes v.items
+        ≡ trimmed (field_text name.now fields.now)) }
+{
+    if lacks(fields, name) {
+        return Ok(Vec::new(alloc));
+    }
+    name_alone(alloc, field_text(alloc, fields, name)?.as_str())
+}
+
+/// The names in the field of that name, parted by commas, if there is one.
+fn names_under(alloc: Global, fields: &Fields, name: &str) -> Result<Vec<String>, AllocError>
+    ensures { IfOk result (λ v. map string_bytes v.items
+        ≡ listed (field_text name.now fields.now)) }
+{
+    if lacks(fields, name) {
+        return Ok(Vec::new(alloc));
+    }
+    names_listed(alloc, field_text(alloc, fields, name)?.as_str())
 }
 
 /// The name in lower ASCII case.

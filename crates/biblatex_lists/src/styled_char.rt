@@ -61,6 +61,14 @@ fn push_chunk(list: &mut Vec<StyledChar>, chunk: &Chunk) -> Result<(), AllocErro
 pub fn push_chars(list: &mut Vec<StyledChar>, text: &str, is_normal: bool) -> Result<(), AllocError>
     ensures { OnOk result (list.new.items ≡ list.old.items ++ of_style is_normal (chars text.now)) }
 {
+    list.reserve(text.len())?;
+    append_chars(list, text, is_normal)
+}
+
+/// The same, without room for all of them beforehand.
+fn append_chars(list: &mut Vec<StyledChar>, text: &str, is_normal: bool) -> Result<(), AllocError>
+    ensures { OnOk result (list.new.items ≡ list.old.items ++ of_style is_normal (chars text.now)) }
+{
     for c in text.chars() {
         list.push(StyledChar { c, is_normal })?;
     }

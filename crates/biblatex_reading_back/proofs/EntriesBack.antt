@@ -3,7 +3,7 @@ use Rattle.std.proofs.Common.{◌≡◌, ℕ, Bool, true, false, true≢false, n
 use Rattle.std.specs.Prelude.{is_some, if◌then◌else◌}
 use Rattle.std.specs.List.{AllByRecursion, list_any}
 use Rattle.std.specs.List.Sorted.{IsStrictlySortedBy}
-use Rattle.std.specs.Str.{chars, trim_start, trim_end, IsUtf8}
+use Rattle.std.specs.Str.{IsUtf8}
 use Rattle.std.proofs.lemmas.List.{append-nil}
 use Rattle.laws.specs.Results.{◌>>=◌}
 use Rattle.laws.specs.Text.{text, lowered}
@@ -16,8 +16,9 @@ use Rattle.biblatex_fields.specs.Fields.{Named, value_named, fields_of, AreInOrd
 use Rattle.biblatex_fields.specs.Refusals.{Refusal}
 use Rattle.biblatex_fields.specs.Value.{Value}
 use Rattle.biblatex_entries.specs.Entries.{Source, names_of, text_in}
-use Rattle.biblatex_entries.specs.Names.{trimmed, listed}
+use Rattle.biblatex_entries.specs.Names.{listed}
 use Rattle.biblatex_entries.specs.TypeNames.{type_of, written_type}
+pub use Rattle.biblatex_entries.proofs.NamesNothing.{nothing_trimmed, nothing_listed}
 use Rattle.biblatex_writing.specs.FieldNames.{written_name}
 use Rattle.biblatex_writing.specs.Settled.{have_distinct_keys, naming_fields}
 use Rattle.biblatex_writing.specs.Written.{in_written_order}
@@ -70,15 +71,6 @@ pub no_xdata : (n : List ℕ) → NamesNone n → bytes_eq n (codes "xdata") ≡
 no_xdata n none =
     first_no (bytes_eq n (codes "xdata")) false
     (second_no (bytes_eq n (codes "crossref")) (bytes_eq n (codes "xdata") || false) (second_no (bytes_eq n (codes "ids")) (bytes_eq n (codes "crossref") || (bytes_eq n (codes "xdata") || false)) none))
-
--- nothing is listed in no text
-pub nothing_trimmed : trimmed [] ≡ []
-unfolding trim_end chars trim_start
-nothing_trimmed = refl
-
-pub nothing_listed : listed [] ≡ []
-unfolding trim_end chars trim_start
-nothing_listed = refl
 
 -- an entry that names no others has its key as its only name
 key_alone : (e : Source) → IsAlone e → names_of e ≡ e.key ∷ []

@@ -4,10 +4,10 @@ use Rattle.std.specs.Prelude.{if◌then◌else◌}
 use Rattle.laws.specs.Characters.{space}
 use Rattle.biblatex_tex.specs.Character.{is_blank}
 use Rattle.biblatex_content.specs.Styled.{Member, Letter, Math}
-use Rattle.biblatex_content.specs.Tidy.{spaced, is_space, squeezed, without_last_space, tidied}
+use Rattle.biblatex_content.specs.Tidy.{spaced, is_space, squeezed, without_last_space, tidied, is_blank_member, is_kept, is_tidy_from}
 use Rattle.biblatex_content.proofs.Tests.{first_of_two, second_of_two}
-use Rattle.biblatex_writing.specs.SettledContent.{is_blank_member, is_kept, is_tidy_from, is_tidy_styled}
-use Rattle.biblatex_reading_back.proofs.TidySame.{no_space}
+use Rattle.biblatex_content.proofs.TidyTexts.{no_space}
+use Rattle.biblatex_writing.specs.SettledContent.{is_tidy_styled}
 
 both : (a b : Bool) → a ≡ true → b ≡ true → (a && b) ≡ true
 both true b one other = other

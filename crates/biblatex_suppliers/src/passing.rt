@@ -77,14 +77,14 @@ fn push_offered(
         (offered to from (seen (written_view entries.now) supplies.now reference))) }
 {
     match to {
-        Role::XData => push_all(to, from, entries, supplies, reference, suppliers),
+        Role::XData => push_all(suppliers, to, from, entries, supplies, reference),
         _ => push_both(
+            further(to),
             to,
             from,
             entries,
             supplies,
             reference,
-            further(to),
             suppliers,
         ),
     }
@@ -92,12 +92,12 @@ fn push_offered(
 
 /// Adds all fields for which an xdata entry may be asked.
 fn push_all(
+    suppliers: &mut Vec<Supplied>,
     to: Role,
     from: Role,
     entries: &Written,
     supplies: &[Supplies],
     reference: usize,
-    suppliers: &mut Vec<Supplied>,
 ) -> Result<(), AllocError>
     ensures { OnOk result (PassesOn
         (supplied_fields (written_view entries.now) suppliers.old.items)
@@ -108,33 +108,14 @@ fn push_all(
         else None)) }
 {
     push_both(
+        of_articles(),
         to,
         from,
         entries,
         supplies,
         reference,
-        of_articles(),
         suppliers,
     )?;
-    push_rest(to, from, entries, supplies, reference, suppliers)
-}
-
-/// Adds the fields that parts of books inherit, and those that a date is made of.
-fn push_rest(
-    to: Role,
-    from: Role,
-    entries: &Written,
-    supplies: &[Supplies],
-    reference: usize,
-    suppliers: &mut Vec<Supplied>,
-) -> Result<(), AllocError>
-    ensures { OnOk result (PassesOn
-        (supplied_fields (written_view entries.now) suppliers.old.items)
-        (supplied_fields (written_view entries.now) suppliers.new.items)
-        (λ name. if is_among of_parts name || is_among of_dates name
-        then seen (written_view entries.now) supplies.now reference (source_name to from name)
-        else None)) }
-{
     push_named(
         to,
         from,
@@ -157,12 +138,12 @@ fn push_rest(
 
 /// Adds the fields that every entry inherits, and those of these names.
 fn push_both(
+    names: &[FieldName],
     to: Role,
     from: Role,
     entries: &Written,
     supplies: &[Supplies],
     reference: usize,
-    names: &[FieldName],
     suppliers: &mut Vec<Supplied>,
 ) -> Result<(), AllocError>
     ensures { OnOk result (PassesOn

@@ -29,9 +29,9 @@ fn characters(alloc: Global, text: &str) -> Result<Vec<char>, AllocError>
 pub fn reversed(alloc: Global, text: &str) -> Result<Vec<char>, AllocError>
     ensures { IfOk result (λ v. reverse v.items ≡ chars text.now) }
 {
-    let mut reversed = Vec::new(alloc);
-    push_reversed(&mut reversed, characters(alloc, text)?)?;
-    Ok(reversed)
+    let mut letters = characters(alloc, text)?;
+    letters.reverse();
+    Ok(letters)
 }
 
 /// Appends characters after others, the last one first.

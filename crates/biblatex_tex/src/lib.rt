@@ -11,4 +11,4 @@ pub use accent::{put_marks, reversed};
 pub use character::{Class, is_blank};
 pub use command::{letter_character, letter_mark, sign_character, sign_mark};
 pub use error::ContentError;
-pub use token::{Token, paired_tokens};
+pub use token::{Lexer, Token, paired_tokens};

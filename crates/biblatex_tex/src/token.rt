@@ -41,7 +41,7 @@ pub enum Token<'s> {
 
 /// What is left to read.
 #[derive(Drop)]
-struct Lexer<'s> {
+pub struct Lexer<'s> {
     rest: &'s str,
 }
 
@@ -56,6 +56,13 @@ fn begins_command(text: &str) -> bool
 }
 
 impl<'s> Lexer<'s> {
+    /// Before the first token of a text.
+    pub fn new(text: &'s str) -> Lexer<'s>
+        ensures { left result ≡ chars text.now }
+    {
+        Lexer { rest: text }
+    }
+
     /// The longest run of the class that stands here.
     fn run(&mut self, class: Class) -> &'s str
         ensures prefix { chars result.now ≡ prefix_of (passes class) (left self.old) }
@@ -84,9 +91,12 @@ impl<'s> Lexer<'s> {
         }
     }
 
-    /// The next token, or nothing at the end of the text.
+    /// The next token, or nothing at the end of the text. A dollar sign counts as one without a partner.
+    ///
+    /// # Errors
+    /// `MalformedCommand` at a lone backslash at the end.
     #[tactic(auto, unfolding(crate::specs::Token::token_at))]
-    fn next_token(&mut self) -> Result<Option<Token<'s>>, ContentError>
+    pub fn next_token(&mut self) -> Result<Option<Token<'s>>, ContentError>
         ensures { Reads (option_map token_view) result (left self.new) (token_at (left self.old)) }
     {
         let Some((c, rest)) = split_first(self.rest) else {

@@ -4,12 +4,13 @@ use Rattle.laws.specs.Characters.{space, hyphen}
 use Rattle.biblatex_tex.specs.Character.{is_blank}
 use Rattle.biblatex_content.specs.declared.chunk.Kind.{Kind}
 use Rattle.biblatex_content.specs.Styled.{Member}
+use Rattle.biblatex_content.specs.Tidy.{is_tidy_from}
 use Rattle.biblatex_writing.specs.declared.settled_content.Tidy.{Tidy}
 use Rattle.biblatex_writing.specs.declared.settled_content.Tidy.TheVariants as tidy
 use Rattle.biblatex_writing.specs.declared.settled_content.Hyphens.{Hyphens}
 use Rattle.biblatex_writing.specs.declared.settled_content.Hyphens.TheVariants as hyphens
 use Rattle.biblatex_writing.specs.declared.settled_content.MathText.{MathText}
-use Rattle.biblatex_writing.specs.SettledContent.{is_tidy_from, is_tidy_styled, are_of_one_kind, hyphen_kind, has_single_hyphens, is_math_from}
+use Rattle.biblatex_writing.specs.SettledContent.{is_tidy_styled, are_of_one_kind, hyphen_kind, has_single_hyphens, is_math_from}
 
 -- a rule where it is not broken yet
 abbrev pub holds_after : {R : Type 0} → (R → List Member → Bool) → Option R → List Member → Bool

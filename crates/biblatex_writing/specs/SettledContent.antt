@@ -2,25 +2,10 @@
 use Rattle.std.specs.Prelude.{ℕ, ◌+◌, ◌-◌, Bool, true, false, not, ◌&&◌, ◌||◌, ◌==◌, List, [], ◌∷◌, Option, Some, None, if◌then◌else◌}
 use Rattle.std.specs.List.{list_all}
 use Rattle.laws.specs.Characters.{dollar_sign, hyphen, backslash, open_brace, close_brace}
-use Rattle.biblatex_tex.specs.Character.{is_blank}
 use Rattle.biblatex_content.specs.declared.chunk.Kind.{Kind}
 use Rattle.biblatex_content.specs.declared.chunk.Kind.TheVariants.{Normal, Verbatim}
 use Rattle.biblatex_content.specs.Styled.{Member, Letter, Math}
-use Rattle.biblatex_content.specs.Tidy.{is_space}
-
-abbrev pub is_blank_member : Member → Bool
-is_blank_member (Letter kind c) = is_blank c
-is_blank_member (Math text) = false
-
--- a member that tidying keeps as it is, where a space, or the start, stands before it or not: no blank, or a space after another character
-abbrev pub is_kept : Bool → Member → Bool
-is_kept after_space m = not (is_blank_member m) || (is_space m && not after_space)
-
--- whether tidying leaves members as they are, where a space, or the start, stands before them or not; no members after a space are not, since
--- the space would go
-abbrev pub is_tidy_from : Bool → List Member → Bool
-is_tidy_from after_space [] = not after_space
-is_tidy_from after_space (m ∷ ms) = is_kept after_space m && is_tidy_from (is_space m) ms
+use Rattle.biblatex_content.specs.Tidy.{is_tidy_from}
 
 -- whether tidying leaves a styled text as it is; it leaves an empty one
 abbrev pub is_tidy_styled : List Member → Bool

@@ -70,16 +70,16 @@ fn push_faults_at(
 {
     match file.whole(index) {
         Some(read) => push_work_faults(alloc, faults, read),
-        None => push_made_faults(alloc, file, index, faults),
+        None => push_made_faults(alloc, faults, file, index),
     }
 }
 
 /// The same of an entry that is made with the fields alone that are read as dates.
 fn push_made_faults(
     alloc: Global,
+    faults: &mut Vec<FieldFault>,
     file: &Catalog,
     index: usize,
-    faults: &mut Vec<FieldFault>,
 ) -> Result<(), AllocError>
     requires { index < length file.now.entries }
     ensures { OnOk result ((rest : List Source) → map fault_view faults.new.items ++ all_faults rest
@@ -88,6 +88,17 @@ fn push_made_faults(
 {
     let read = file.named(alloc, index, read_as_dates())?;
     push_work_faults(alloc, faults, &read)
+}
+
+/// How many marks are set.
+fn marked_count(marks: &[bool]) -> usize {
+    let mut count: usize = 0;
+    for &is_set in marks {
+        if is_set {
+            count = count.saturating_add(1);
+        }
+    }
+    count
 }
 
 /// The library of the entries of a catalog that have a mark.
@@ -102,7 +113,7 @@ pub(crate) fn marked_library(
     ensures { Gives refusal_of library_view result
         (library_of (marked_entries marks.now file.now.entries)) }
 {
-    let mut library = Library::new(alloc);
+    let mut library = Library::with_capacity(alloc, marked_count(marks))?;
     let mut faults = Vec::new(alloc);
     put_marked(alloc, file, marks, &mut library, &mut faults)?;
     finished(library, faults)
@@ -121,7 +132,7 @@ fn put_marked(
         (marked_entries marks.now file.now.entries)) }
 {
     for index in 0..file.len() {
-        put_if_marked(alloc, file, marks, index, library, faults)?;
+        put_if_marked(alloc, file, index, marks, library, faults)?;
     }
     Ok(())
 }
@@ -130,8 +141,8 @@ fn put_marked(
 fn put_if_marked(
     alloc: Global,
     file: &Catalog,
-    marks: &[bool],
     index: usize,
+    marks: &[bool],
     library: &mut Library,
     faults: &mut Vec<FieldFault>,
 ) -> Result<(), AllocError>
@@ -174,17 +185,17 @@ fn put_at(
 {
     match file.whole(index) {
         Some(read) => put_work(alloc, library, faults, read),
-        None => put_made(alloc, file, index, library, faults),
+        None => put_made(alloc, library, faults, file, index),
     }
 }
 
 /// The same of an entry that is made.
 fn put_made(
     alloc: Global,
-    file: &Catalog,
-    index: usize,
     library: &mut Library,
     faults: &mut Vec<FieldFault>,
+    file: &Catalog,
+    index: usize,
 ) -> Result<(), AllocError>
     requires { index < length file.now.entries }
     ensures { OnOk result ((rest : List Source)

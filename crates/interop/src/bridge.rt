@@ -55,52 +55,57 @@ fn work(alloc: Global, read: &SourceEntry, dates: Dates) -> Result<Entry, AllocE
     let fields = &read.fields;
     let row = row_of(&read.entry_type);
     let key = owned(alloc, read.key.as_str())?;
-    let entry = own_entry(alloc, key, row.entry_type, fields, dates)?;
+    let mut entry = own_entry(alloc, key, row.entry_type, fields, dates)?;
     match container_of(row.container, fields) {
         Some((entry_type, title)) => {
             let outer = container_entry(alloc, fields, entry_type, title)?;
-            within(alloc, entry, outer, fields, dates)
+            set_within(alloc, &mut entry, outer, fields, dates)?;
+            Ok(entry)
         }
-        None => by_itself(alloc, entry, fields, dates),
+        None => {
+            set_by_itself(alloc, &mut entry, fields, dates)?;
+            Ok(entry)
+        }
     }
 }
 
-/// An entry of the work that holds it.
-fn within(
+/// Makes an entry one of the work that holds it.
+fn set_within(
     alloc: Global,
-    mut entry: Entry,
+    entry: &mut Entry,
     outer: Entry,
     fields: &Fields,
     dates: Dates,
-) -> Result<Entry, AllocError>
+) -> Result<(), AllocError>
     requires { dates ≡ dates_of (values fields.now) }
-    ensures { IfOk result (λ e. entry_view e ≡ Holding (views.key_view entry)
-        (views.fields_view entry) (wholes (entry_view outer ∷ further [] (values fields.now)))) }
+    ensures { OnOk result (entry_view entry.new ≡ Holding (views.key_view entry.old)
+        (views.fields_view entry.old)
+        (wholes (entry_view outer ∷ further [] (values fields.now)))) }
 {
     let mut parents = Vec::new(alloc);
     parents.push(outer)?;
     push_further(alloc, &mut parents, fields, None, dates)?;
     entry.set_parents(parents);
-    Ok(entry)
+    Ok(())
 }
 
-/// An entry that no other work holds.
-fn by_itself(
+/// Makes an entry one that no other work holds.
+fn set_by_itself(
     alloc: Global,
-    mut entry: Entry,
+    entry: &mut Entry,
     fields: &Fields,
     dates: Dates,
-) -> Result<Entry, AllocError>
-    requires bare { IsBare (views.fields_view entry) }
+) -> Result<(), AllocError>
+    requires bare { IsBare (views.fields_view entry.old) }
     requires dates { dates ≡ dates_of (values fields.now) }
-    ensures { IfOk result (λ e. entry_view e ≡ Holding (views.key_view entry)
-        (container_fields (values fields.now) (views.fields_view entry)) (wholes (further
+    ensures { OnOk result (entry_view entry.new ≡ Holding (views.key_view entry.old)
+        (container_fields (values fields.now) (views.fields_view entry.old)) (wholes (further
         (titled_under works.Anthology (codes "series") (values fields.now)) (values fields.now)))) }
 {
-    set_container_fields(alloc, &mut entry, fields)?;
+    set_container_fields(alloc, entry, fields)?;
     let parents = series_and_further(alloc, fields, dates)?;
     entry.set_parents(parents);
-    Ok(entry)
+    Ok(())
 }
 
 /// What an entry is part of that no other work holds.

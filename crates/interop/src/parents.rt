@@ -1,6 +1,6 @@
 //! The works that an entry is part of.
 
-ghost use Rattle.std.specs.Prelude.{◌≡◌, ◌||◌, ◌++◌, ◌∷◌, [], map, IfOk, OnOk, option_to_list, codes};
+ghost use Rattle.std.specs.Prelude.{◌≡◌, ◌||◌, ◌++◌, ◌∷◌, [], true, Some, map, IfOk, OnOk, option_to_list, codes};
 ghost use Rattle.std.specs.Option.{option_map, is_some};
 ghost use Rattle.biblatex_content.specs.Views.{styled};
 ghost use Rattle.literature_values.specs.declared.entry_type.EntryType.TheVariants as works;
@@ -84,6 +84,7 @@ fn push_titled(
 }
 
 /// Appends a work that has a title alone.
+#[inline(never)]
 fn push_work(
     alloc: Global,
     parents: &mut Vec<Entry>,
@@ -113,6 +114,21 @@ fn push_conference(
     if !has_conference(title, date) {
         return Ok(());
     }
+    push_this_conference(alloc, parents, title, date)
+}
+
+/// Appends the conference of a title or a date.
+#[inline(never)]
+fn push_this_conference(
+    alloc: Global,
+    parents: &mut Vec<Entry>,
+    title: Option<&[Spanned<Chunk>]>,
+    date: Option<Date>,
+) -> Result<(), AllocError>
+    requires { (is_some title || is_some date) ≡ true }
+    ensures { OnOk result (map entry_view parents.new.items ≡ map entry_view parents.old.items
+        ++ conference_of (option_map (λ v. styled v.now) title.entry) date) }
+{
     let title = format_if(alloc, title)?;
     let mut conference = Entry::new(empty_text(alloc), EntryType::Conference);
     set_title(&mut conference, title);
@@ -136,9 +152,18 @@ fn push_original(
     ensures { OnOk result (map entry_view parents.new.items
         ≡ map entry_view parents.old.items ++ original_of date) }
 {
-    let Some(date) = date else {
-        return Ok(());
-    };
+    match date {
+        Some(date) => push_original_of(alloc, parents, date),
+        None => Ok(()),
+    }
+}
+
+/// Appends the original of a date.
+#[inline(never)]
+fn push_original_of(alloc: Global, parents: &mut Vec<Entry>, date: Date) -> Result<(), AllocError>
+    ensures { OnOk result (map entry_view parents.new.items
+        ≡ map entry_view parents.old.items ++ original_of (Some date)) }
+{
     let mut original = Entry::new(empty_text(alloc), EntryType::Original);
     original.set_date(date);
     Ok(parents.push(original)?)

@@ -1,12 +1,17 @@
 //! The dates of an entry.
 
-ghost use Rattle.std.specs.Prelude.{◌≡◌, IfOk};
+ghost use Rattle.std.specs.Prelude.{◌≡◌, IfOk, IfSome, Some};
+ghost use Rattle.std.specs.Str.{chars};
+ghost use Rattle.biblatex_content.specs.Views.{styled};
+ghost use Rattle.biblatex_entries.specs.Typed.{characters_of};
 ghost use Rattle.interop_values.specs.Values.{values};
-ghost use Rattle.interop_values.specs.Readings.{point_of, is_same_day, end_between, end_of, library_date, date_under, date_by_parts, own_date};
+ghost use Rattle.interop_values.specs.Readings.{point_of, is_same_day, end_between, end_of, library_date, date_in, date_under, date_by_parts, own_date};
 
-use crate::values::text;
+use crate::values::{text, value};
+use biblatex_content::{Chunk, Spanned};
 use biblatex_dates::{Date as SourceDate, DateValue, Datetime, TypeErrorKind};
 use biblatex_fields::Fields;
+use biblatex_values::plain_text;
 use literature_values::{Date, DateEnd};
 use std::alloc::{AllocError, Global};
 use texts::has_text;
@@ -20,11 +25,51 @@ pub fn date_under(
 ) -> Result<Option<Result<SourceDate, TypeErrorKind>>, AllocError>
     ensures { IfOk result (λ r. r ≡ date_under name.now (values fields.now)) }
 {
-    let text = text(alloc, fields, name)?;
-    if has_text(text.as_str()) {
-        return Ok(Some(SourceDate::read(text.as_str())));
+    match value(fields, name) {
+        Some(value) => date_of_content(alloc, value),
+        None => Ok(None),
     }
-    Ok(None)
+}
+
+/// What a text reads as; an empty one is no date.
+fn date_in(text: &str) -> Option<Result<SourceDate, TypeErrorKind>>
+    ensures { result ≡ date_in (chars text.now) }
+{
+    if has_text(text) {
+        return Some(SourceDate::read(text));
+    }
+    None
+}
+
+/// The text of a content that is one chunk.
+fn text_alone(value: &[Spanned<Chunk>]) -> Option<&str>
+    ensures { IfSome result (λ text. characters_of (Some (styled value.now)) ≡ chars text.now) }
+{
+    match value.split_first() {
+        Some((chunk, rest)) => {
+            if rest.is_empty() {
+                Some(chunk.v.get())
+            } else {
+                None
+            }
+        }
+        None => None,
+    }
+}
+
+/// What a content reads as. The text of one chunk is read where it lies.
+#[inline(never)]
+fn date_of_content(
+    alloc: Global,
+    value: &[Spanned<Chunk>],
+) -> Result<Option<Result<SourceDate, TypeErrorKind>>, AllocError>
+    ensures { IfOk result (λ r. r ≡ date_in (characters_of (Some (styled value.now)))) }
+{
+    if let Some(text) = text_alone(value) {
+        return Ok(date_in(text));
+    }
+    let text = plain_text(alloc, value)?;
+    Ok(date_in(text.as_str()))
 }
 
 /// The date of the entry: that of `date`, where it has a text, else that of year, month and day.

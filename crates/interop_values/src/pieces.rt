@@ -25,16 +25,17 @@ pub(crate) struct Pieces {
 }
 
 impl Pieces {
-    /// Pieces of which there are none yet.
-    pub(crate) fn new(alloc: Global) -> Pieces
-        ensures { (rest : List Member) → with_pieces result rest ≡ pieces_of rest }
+    /// Pieces of which there are none yet, with room for so many.
+    pub(crate) fn with_room(alloc: Global, room: usize) -> Result<Pieces, AllocError>
+        ensures { IfOk result (λ p. (rest : List Member) → with_pieces p rest ≡ pieces_of rest) }
     {
-        Pieces {
+        let done = Vec::with_capacity(alloc, room)?;
+        Ok(Pieces {
             alloc,
-            done: Vec::new(alloc),
+            done,
             is_verbatim: false,
             run: empty_text(alloc),
-        }
+        })
     }
 
     pub(crate) fn push_chunks(&mut self, value: &[Spanned<Chunk>]) -> Result<(), AllocError>

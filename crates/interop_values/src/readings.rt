@@ -35,7 +35,7 @@ use url::{ParseError, Url};
 fn pieces(alloc: Global, value: &[Spanned<Chunk>]) -> Result<ChunkedString, AllocError>
     ensures { IfOk result (λ s. chunks_view s ≡ pieces_of (styled value.now)) }
 {
-    let mut pieces = Pieces::new(alloc);
+    let mut pieces = Pieces::with_room(alloc, value.len())?;
     pieces.push_chunks(value)?;
     pieces.finish()
 }
@@ -104,6 +104,14 @@ pub fn title(alloc: Global, fields: &Fields) -> Result<Option<FormatString>, All
     }
 }
 
+/// Room for the pieces of a title and its subtitle.
+fn room_for(title: &[Spanned<Chunk>], subtitle: Option<&[Spanned<Chunk>]>) -> usize {
+    match subtitle {
+        Some(subtitle) => title.len().saturating_add(subtitle.len()),
+        None => title.len(),
+    }
+}
+
 /// A title, and a colon, a space and the subtitle after it.
 fn with_subtitle(
     alloc: Global,
@@ -113,7 +121,7 @@ fn with_subtitle(
     ensures { IfOk result (λ s. chunks_view s ≡ pieces_of
         (with_subtitle (styled title.now) (option_map (λ v. styled v.now) subtitle.entry))) }
 {
-    let mut pieces = Pieces::new(alloc);
+    let mut pieces = Pieces::with_room(alloc, room_for(title, subtitle))?;
     pieces.push_chunks(title)?;
     push_subtitle(&mut pieces, subtitle)?;
     pieces.finish()

@@ -13,4 +13,4 @@ returns c =
     let es = marked_entries c.args.marks.now c.args.file.now.entries in
     subst (λ (r : Result (List EntryData) (List Fault)). Gives refusal_of library_view c.finished.result r)
     (sym (ap (λ (fs : List Fault). unless_faulty fs (library_view library)) (append-nil faults))
-    ∙ (c.in_ok-put_marked.ensures ∙ (λ i. come_to (map fault_view (c.new-faults.ensures.items i)) (map entry_view (c.new-library.ensures i)) es))) c.finished.ensures
+    ∙ (c.in_ok-put_marked.ensures ∙ (λ i. come_to (map fault_view (c.new-faults.ensures.items i)) (map entry_view (c.in_ok-library.ensures i)) es))) c.finished.ensures

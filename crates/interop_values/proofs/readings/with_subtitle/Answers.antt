@@ -16,6 +16,6 @@ returns c =
     (λ s e.
     e ∙ (c.in_ok-push_subtitle.ensures []
     ∙ (c.in_ok-push_chunks.ensures (with_subtitle [] subtitle ++ [])
-    ∙ (c.new-pieces.ensures (title ++ (with_subtitle [] subtitle ++ []))
+    ∙ (c.in_ok-pieces.ensures (title ++ (with_subtitle [] subtitle ++ []))
     ∙ ap (λ (ms : List Member). pieces_of ms) (after_title title subtitle)))))
     c.finish.ensures

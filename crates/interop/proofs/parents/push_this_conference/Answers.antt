@@ -11,7 +11,7 @@ use Rattle.interop.specs.Bridge.{parent}
 use Rattle.interop.proofs.ViewsEntries.{holds, last, before_none}
 use Rattle.interop.proofs.FieldsSet.{put_title, put_date}
 use Rattle.interop.proofs.KindsTitled.{some_conference}
-use Rattle.interop.proofs.parents.push_conference.Goals as goal
+use Rattle.interop.proofs.parents.push_this_conference.Goals as goal
 
 pub returns : goal.returns
 returns c =
@@ -27,4 +27,4 @@ returns c =
     (ap (λ (es : List Entry). map entry_view es) (c.set_date.ensures.2 ∙ (c.set_title.ensures.2 ∙ c.new-conference.ensures.parents))) in
     ap (λ (es : List Entry). map entry_view es) c.in_ok-push.ensures.items
     ∙ (last old e (parent fs []) made
-    ∙ ap (λ (ws : List EntryData). map entry_view old ++ ws) (some_conference c.args.title date (cc)))
+    ∙ ap (λ (ws : List EntryData). map entry_view old ++ ws) (some_conference c.args.title date c.requires))

@@ -2,7 +2,7 @@ use Rattle.std.proofs.Common.{◌≡◌, ◌++◌, length}
 use Rattle.std.specs.Vec.Iter.{into_iter_items, into_iter_len}
 use Rattle.biblatex_content.specs.Spans.{all_at, spanned_so_far}
 use Rattle.biblatex_content.specs.Views.{so_far, styled}
-use Rattle.biblatex_content.proofs.contents.Contents.push_chunks.Given as goal
+use Rattle.biblatex_content.proofs.contents.Contents.append_chunks.Given as goal
 
 abbrev pub invariant-loop-chunk : goal.invariant-loop-chunk
 invariant-loop-chunk l = record {

@@ -2,7 +2,7 @@ use Rattle.std.proofs.Common.{◌≡◌, ◌++◌}
 use Rattle.std.specs.Str.{chars, IsUtf8}
 use Rattle.std.specs.Str.Iter.{chars_rest}
 use Rattle.biblatex_lists.specs.StyledChars.{of_style}
-use Rattle.biblatex_lists.proofs.styled_char.push_chars.Given as goal
+use Rattle.biblatex_lists.proofs.styled_char.append_chars.Given as goal
 
 abbrev pub invariant-loop-c : goal.invariant-loop-c
 invariant-loop-c l = record {
