@@ -1,5 +1,6 @@
 pub mod AlikeAnswers
 pub mod CitationsCount
+pub mod CitedOutputs
 pub mod DocumentAsked
 pub mod Finishing
 pub mod NamesAreKeys

@@ -21,6 +21,7 @@ ghost use Rattle.cite_requests.specs.Views.{file_works};
 ghost use Rattle.cite.specs.Views.{task_of};
 ghost use Rattle.cite_requests.specs.Answers.{Answers, Gives, Writes, UnlessWrite, OnWrite, IsLastFault};
 
+use crate::memory::{Ending, Memory};
 use cite_markers::Document;
 use cite_output::Output;
 use cite_requests::{
@@ -39,7 +40,7 @@ use std::slice;
 
 /// Citations and bibliography of a document. The file is dropped before the driver begins, which prints entries of the library alone.
 fn render(
-    alloc: Global,
+    memory: Memory,
     bib_file: BibFile,
     style: &Style,
     locale: &Locale,
@@ -50,6 +51,7 @@ fn render(
         (context_of (style_view style.now) (locale_view locale.now))
         (map spelled sections.now) (document_view document.now)) }
 {
+    let alloc = memory.alloc;
     let library = bib_file.library(alloc, document, sections)?;
     let setting = CitingSetting {
         library: &library,
@@ -60,7 +62,10 @@ fn render(
     drop(bib_file);
     let selectors = selectors(alloc, sections)?;
     let chosen = chosen(alloc, &selectors, &library)?;
-    finish(alloc, requests, style, locale, &chosen)
+    let rendered = finish(alloc, requests, style, locale, &chosen);
+    memory.free_or_leave(chosen);
+    memory.free_or_leave(library);
+    rendered
 }
 
 /// Citations and bibliography of requests, in the order in which entries are chosen.
@@ -86,7 +91,7 @@ fn finish<'x>(
 
 /// The output of a call, before any of it is written.
 fn compose<'d>(
-    alloc: Global,
+    memory: Memory,
     bib: &[u8],
     document: &'d [u8],
     style: &Style,
@@ -97,9 +102,10 @@ fn compose<'d>(
     ensures { Answers output_of result
         (IsVerdict bib.now (task_of document.now style.now locale.now sections.now format)) }
 {
+    let alloc = memory.alloc;
     let bib_file = BibFile::read(alloc, bib)?;
     let document = read_document(alloc, document)?;
-    let rendered = render(alloc, bib_file, style, locale, &document, sections)?;
+    let rendered = render(memory, bib_file, style, locale, &document, sections)?;
     Ok(Output {
         document,
         rendered,
@@ -137,7 +143,11 @@ pub fn cite_to_string(
     ensures rewriting { ForRewriting bib.now (λ other. Answers (λ s. string_bytes s) result
         (IsVerdict other (task_of document.now style.now locale.now sections.now format))) }
 {
-    let output = compose(alloc, bib, document, style, locale, sections, format)?;
+    let memory = Memory {
+        alloc,
+        ending: Ending::GivenBack,
+    };
+    let output = compose(memory, bib, document, style, locale, sections, format)?;
     Ok(output.to_text(alloc)?)
 }
 
@@ -180,9 +190,61 @@ pub fn cite<W: Sink>(
     // The fault of a failed write is what that call did.
     ensures fault { IfErr result (λ e. IsLastFault e (W.last_fault sink.new)) }
 {
-    let output = compose(alloc, bib, document, style, locale, sections, format)?;
+    let memory = Memory {
+        alloc,
+        ending: Ending::GivenBack,
+    };
+    let output = compose(memory, bib, document, style, locale, sections, format)?;
     match output.write_to(sink) {
         Ok(()) => Ok(()),
         Err(fault) => Err(CiteError::Write(fault)),
+    }
+}
+
+/// Does what `cite` does, as the last thing before the process ends: most of what it took of memory is not given back.
+///
+/// # Errors
+/// Those of `cite`.
+pub fn cite_at_exit<W: Sink>(
+    alloc: Global,
+    bib: &[u8],
+    document: &[u8],
+    style: &Style,
+    locale: &Locale,
+    sections: &[&str],
+    format: BufWriteFormat,
+    sink: &mut W,
+) -> Result<(), CiteError>
+    // The sink has taken exactly the output. It is the output of each bib text that is alike to this one too, and of what is written of the
+    // entries without `crossref`, if these are settled and none has two fields that are written under one name.
+    ensures written { OnOk result (IsCited bib.now
+        (task_of document.now style.now locale.now sections.now format)
+        (λ output. Appends (W.contents sink.old) (W.contents sink.new) output)) }
+    // A refusal is the first one, with its fault; and what is written of those entries is refused at the same stage, with the same fault.
+    ensures refused { IfErr result (IsRefusedAlike bib.now
+        (task_of document.now style.now locale.now sections.now format)) }
+    // Nothing is written after any refusal but a failed write.
+    ensures untouched { IfErr result (λ e. UnlessWrite e (sink.new ≡ sink.old)) }
+    // After a failed write a prefix of the output stands, and some call of `write` failed or took nothing.
+    ensures cut_short { IfErr result (λ e. OnWrite e
+        (Writes (IsVerdict bib.now (task_of document.now style.now locale.now sections.now format))
+        (λ output. AppendsPrefix (W.contents sink.old) (W.contents sink.new) output))) }
+    ensures cause { IfErr result (λ e.
+        OnWrite e (HasFailed (W.failures sink.old) (W.failures sink.new))) }
+    // No call of `write` failed before Ok, and none was tried after one that did.
+    ensures quiet { OnOk result (W.failures sink.new ≡ W.failures sink.old) }
+    ensures once { IfErr result (λ e. OnWrite e (W.failures sink.new
+        ≡ next_count (W.failures sink.old))) }
+    // The fault of a failed write is what that call did.
+    ensures fault { IfErr result (λ e. IsLastFault e (W.last_fault sink.new)) }
+{
+    let memory = Memory {
+        alloc,
+        ending: Ending::Left,
+    };
+    let output = compose(memory, bib, document, style, locale, sections, format)?;
+    match output.write_last(sink) {
+        Ok(written) => Ok(written),
+        Err(failed) => Err(CiteError::Write(failed)),
     }
 }

@@ -3,12 +3,13 @@
 #![tactic(auto)]
 
 mod engine;
+mod memory;
 mod output_laws;
 
 pub use cite_markers::{Cite, CiteLocator, Document, DocumentError, Piece};
 pub use cite_requests::{BibTextError, CiteError, DocumentTextError, cited_keys, work_of};
 pub use cite_styles::{author_date, english, note, numeric};
-pub use engine::{cite, cite_to_string};
+pub use engine::{cite, cite_at_exit, cite_to_string};
 pub use interop::{DateField, FieldFault};
 pub use literature::SelectorError;
 pub use output_laws::{

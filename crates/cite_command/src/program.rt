@@ -13,7 +13,7 @@ ghost use Rattle.rendering_style.specs.StyleViews.{style_view};
 ghost use Rattle.cite_command.specs.Program.{asked, job_of, ServesJob, IsJobFault, Serves, CannotRead, IsFault, IsReason, line, fault_message, fault_lines, fault_text, error_message, message_of, said, format_named, style_named};
 ghost use Rattle.cite_requests.specs.Refusals.{error_text};
 
-use cite::cite;
+use cite::cite_at_exit;
 use cite_requests::CiteError;
 use cite_styles::{author_date, english, note, numeric};
 use interop::FieldFault;
@@ -74,7 +74,8 @@ pub fn paths<'s, 'w>(words: &'s [&'w str]) -> &'s [&'w str]
 /// Runs the program: `STYLE FORMAT BIB DOC [SECTION ..]`, where STYLE is `numeric`, `author-date` or `note`, and FORMAT is `plain` or `html`. The output
 /// goes to `out`, and the status is 0; or a line that begins `cite: ` and says why not goes to `err`, and the status is 1.
 /// `files` are what was read of the paths that `paths` names; one that is missing cannot be read. Words, style and format are
-/// looked at first, then the bib text's file, the document's, and then `cite` is called. A fault of `err` is passed over.
+/// looked at first, then the bib text's file, the document's, and then `cite` is called. A fault of `err` is passed over. It is the last
+/// thing that a process does: most of what it took of memory is not given back.
 pub fn run<O: Sink, E: Sink>(
     alloc: Global,
     words: &[&str],
@@ -235,7 +236,7 @@ fn serve<'w, O: Sink>(
     cite_files(alloc, &job, files, out)
 }
 
-/// What `cite` returns for the files of a job, or why it is not called.
+/// What `cite` returns for the files of a job, or why it is not called. Most of what it took of memory is not given back.
 fn cite_files<'w, O: Sink>(
     alloc: Global,
     job: &Job<'w, '_>,
@@ -260,7 +261,7 @@ fn cite_files<'w, O: Sink>(
     let bib = read(files, job.bib)?;
     let document = read(files, job.document)?;
     let locale = english(alloc)?;
-    Ok(cite(
+    Ok(cite_at_exit(
         alloc,
         bib,
         document,

@@ -34,6 +34,7 @@ use interop::{from_biblatex, from_entries};
 use literature::Library;
 use std::alloc::{AllocError, Global};
 use std::collections::BTreeSet;
+use std::mem;
 
 /// Those of these entries that have one of the keys.
 fn entries_with<'f>(
@@ -156,7 +157,7 @@ fn lines_for(
     }
 }
 
-/// Citations and bibliography of a document.
+/// Citations and bibliography of a document. The library is left to the system, which takes it back when the process ends.
 pub(crate) fn render(
     alloc: Global,
     entries: &Entries,
@@ -178,7 +179,9 @@ pub(crate) fn render(
         entries,
         library: &library,
     };
-    rendered_or_lines(alloc, works, setting, document, sections)
+    let rendered = rendered_or_lines(alloc, works, setting, document, sections);
+    mem::forget(library);
+    rendered
 }
 
 /// Citations and bibliography of a document by the library of the entries that are needed, or the lines why not.

@@ -23,6 +23,7 @@ use cite_requests::{CiteError, selectors};
 use programs::{FileRead, say};
 use sinks::Sink;
 use std::alloc::{AllocError, Global};
+use std::mem;
 
 /// The line where there is no memory to say more.
 const NO_MEMORY: &str = "cite_csl: out of memory\n";
@@ -106,11 +107,28 @@ fn write<O: Sink, E: Sink>(made: &Made<'_>, out: &mut O, err: &mut E) -> u8
     }
 }
 
+/// Writes what a run came to as the last thing before the process ends: its memory is not given back.
+fn write_last<O: Sink, E: Sink>(made: Made<'_>, out: &mut O, err: &mut E) -> u8
+    ensures status { result ≤ 1 }
+    ensures served { result ≡ 0 → (Appends (O.contents out.old) (O.contents out.new)
+        (made_view made.entry).output) × (Says (λ message. message ≡ (made_view made.entry).told)
+        (E.contents err.old) (E.contents err.new) (E.failures err.old) (E.failures err.new)) }
+    ensures cut_short { result ≡ 1 → (HasFailed (O.failures out.old) (O.failures out.new))
+        × (AppendsPrefix (O.contents out.old) (O.contents out.new) (made_view made.entry).output) }
+    ensures message { result ≡ 1 → Says (λ message. message ≡ not_written (codes "cite_csl"))
+        (E.contents err.old) (E.contents err.new) (E.failures err.old) (E.failures err.new) }
+{
+    let status = write(&made, out, err);
+    mem::forget(made);
+    status
+}
+
 /// Runs the program for what words ask for. The output goes to `out`, and the status is 0; then `err` takes a line for each thing that the style
 /// asks for and is not carried out, and then for each term that it prints and no locale has. Or lines that say why there is no output go to `err`:
 /// the status is 2 where a section is no selector, else 1.
 /// `files` are what was read of the paths that `paths` and `paths_for` name; one that is missing cannot be read. `found` is what `found_in` gives for
-/// the style among them: a caller who looks there for its parent reads the style once. A fault of `err` is passed over.
+/// the style among them: a caller who looks there for its parent reads the style once. A fault of `err` is passed over. It is the last thing
+/// that a process does: most of what it took of memory is not given back.
 pub fn run<'f, O: Sink, E: Sink>(
     alloc: Global,
     asked: &Asked<'f>,
@@ -152,7 +170,7 @@ pub fn run<'f, O: Sink, E: Sink>(
         return say_stop(&stop, 2, err);
     }
     match make(alloc, asked, files, found) {
-        Ok(made) => write(&made, out, err),
+        Ok(made) => write_last(made, out, err),
         Err(stop) => say_stop(&stop, 1, err),
     }
 }

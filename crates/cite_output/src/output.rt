@@ -23,7 +23,7 @@ use rendering_output::{BufWriteFormat, TextTarget, WriterTarget};
 use rendering_tree::ElemChild;
 use sinks::{Sink, SinkFault, SinkTarget};
 use std::alloc::{AllocError, Global};
-use std::fmt;
+use std::{fmt, mem};
 
 /// An output of which all is known: a document, what it is rendered to, and the format. It is written piece by piece: nothing that takes
 /// memory is done then.
@@ -69,6 +69,25 @@ impl Output<'_> {
         };
         self.push_to(&mut printed);
         printed.target.result()
+    }
+
+    /// Writes the pieces as `write_to` does, as the last thing before the process ends: the memory of the output is not given back.
+    ///
+    /// # Errors
+    /// What that call did.
+    pub fn write_last<W: Sink>(self, sink: &mut W) -> Result<(), SinkFault>
+        ensures ok { OnOk result
+            (Appends (W.contents sink.old) (W.contents sink.new) (output_of self.entry)) }
+        ensures err { OnErr result
+            (AppendsPrefix (W.contents sink.old) (W.contents sink.new) (output_of self.entry)) }
+        ensures cause { OnErr result (HasFailed (W.failures sink.old) (W.failures sink.new)) }
+        ensures quiet { OnOk result (W.failures sink.new ≡ W.failures sink.old) }
+        ensures once { OnErr result (W.failures sink.new ≡ next_count (W.failures sink.old)) }
+        ensures fault { IfErr result (λ e. W.last_fault sink.new ≡ Some e) }
+    {
+        let written = self.write_to(sink);
+        mem::forget(self);
+        written
     }
 
     /// Writes the pieces in order to any writer.

@@ -1,3 +1,4 @@
+pub mod Alone
 pub mod BlocksCases
 pub mod RunsCut
 pub mod RunsSteps

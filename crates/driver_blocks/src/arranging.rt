@@ -1,6 +1,6 @@
 //! The order in which the cites of a citation stand, and what is left of them.
 
-ghost use Rattle.std.specs.Prelude.{◌≡◌, ◌++◌, IfOk, OnOk, None, if◌then◌else◌, map};
+ghost use Rattle.std.specs.Prelude.{◌≡◌, ◌∷◌, ◌++◌, [], Bool, IfOk, IfSome, OnOk, None, if◌then◌else◌, map};
 ghost use Rattle.std.specs.List.{flat_map};
 ghost use Rattle.rendering_style.specs.Styles as styles;
 ghost use Rattle.rendering_style.specs.Views.{citation_layout_view};
@@ -20,6 +20,65 @@ use std::alloc::{AllocError, Global};
 /// # Errors
 /// Out of memory.
 pub fn arrange<'a>(
+    alloc: Global,
+    style: &Citation,
+    has_purpose: bool,
+    cites: &[Gathered<'a>],
+) -> Result<Vec<Arranged<'a>>, AllocError>
+    ensures { IfOk result (λ v. map (arranged_view (citation_layout_view style.now)) v.items
+        ≡ arranged (citation_layout_view style.now) has_purpose (map gathered_view cites.now)) }
+{
+    match only(cites) {
+        Some(cite) => whole(alloc, cite),
+        None => arrange_all(alloc, style, has_purpose, cites),
+    }
+}
+
+/// The cite of a citation of one cite.
+fn only<'a>(cites: &[Gathered<'a>]) -> Option<Gathered<'a>>
+    ensures { IfSome result (λ g. map gathered_view cites.now ≡ gathered_view g ∷ []) }
+{
+    match cites.split_first() {
+        Some((first, others)) => first_alone(cites, first, others),
+        None => None,
+    }
+}
+
+/// The first of some cites, unless there are others.
+fn first_alone<'a>(
+    cites: &[Gathered<'a>],
+    first: &Gathered<'a>,
+    others: &[Gathered<'a>],
+) -> Option<Gathered<'a>>
+    requires { cites.now ≡ first.now ∷ others.now }
+    ensures { IfSome result (λ g. map gathered_view cites.now ≡ gathered_view g ∷ []) }
+{
+    if others.is_empty() {
+        return Some(*first);
+    }
+    None
+}
+
+/// A citation of one cite, which prints all of that.
+fn whole<'a>(alloc: Global, cite: Gathered<'a>) -> Result<Vec<Arranged<'a>>, AllocError>
+    ensures { (c : styles.Citation) (has_purpose : Bool)
+        → IfOk result (λ v. map (arranged_view c) v.items
+        ≡ arranged c has_purpose (gathered_view cite.entry ∷ [])) }
+{
+    one(alloc, uncollapsed(Before::Layout, cite))
+}
+
+/// One cite.
+fn one<'a>(alloc: Global, cite: Arranged<'a>) -> Result<Vec<Arranged<'a>>, AllocError>
+    ensures { IfOk result (λ v. v.items ≡ cite.entry ∷ []) }
+{
+    let mut cites = Vec::with_capacity(alloc, 1)?;
+    cites.push(cite)?;
+    Ok(cites)
+}
+
+/// Cites in blocks, which are collapsed.
+fn arrange_all<'a>(
     alloc: Global,
     style: &Citation,
     has_purpose: bool,

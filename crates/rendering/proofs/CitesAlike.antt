@@ -1,5 +1,5 @@
 -- Cites and items of entries that answer alike are one.
-use Rattle.std.proofs.Common.{◌≡◌, ℕ, Bool, true, false, not, ◌&&◌, List, [], ◌∷◌, length, refl, ap, ◌∙◌, Option, Some, None, Contains, arith}
+use Rattle.std.proofs.Common.{◌≡◌, ℕ, Bool, true, false, not, ◌&&◌, List, [], ◌∷◌, length, is_some, refl, ap, ◌∙◌, Option, Some, None, Contains, arith}
 use Rattle.std.specs.Prelude.{if◌then◌else◌, filter_map, codes}
 use Rattle.std.specs.List.{cons_option}
 use Rattle.std.specs.Option.{option_map, option_map_or, unwrap_or}
@@ -225,7 +225,7 @@ item_same : (a b : Answers) (c : Context) (s : Style) (o : Option Bibliography) 
     → option_map (item_of s (with_answers a c)) o ≡ option_map (item_of s (with_answers b c)) o
 item_same a b c s None g h = refl
 item_same a b c s (Some y) g h =
-    ap (λ st. Some (rendered_item c.quotes (append c (end (layout_frame y.layout) ∷ []) st)))
+    ap (λ st. Some (rendered_item c.quotes (is_some y.substitute) (append c (end (layout_frame y.layout) ∷ []) st)))
     (layout_same a b c s y.layout y.name_options whole (append c (begin (layout_frame y.layout) ∷ []) (begun_in s)) g h)
 
 pub items_alike : AlikeItemsAreOne

@@ -1,5 +1,5 @@
 -- What cites and items of a bibliography print.
-use Rattle.std.specs.Prelude.{ℕ, Bool, true, false, not, ◌&&◌, ◌||◌, List, [], ◌∷◌, ◌++◌, filter_map, if◌then◌else◌, Option, Some, None, codes}
+use Rattle.std.specs.Prelude.{ℕ, Bool, true, false, not, ◌&&◌, ◌||◌, List, [], ◌∷◌, ◌++◌, filter_map, if◌then◌else◌, is_some, Option, Some, None, codes}
 use Rattle.std.specs.List.{list_any}
 use Rattle.std.specs.Option.{option_map, option_map_or, unwrap_or}
 use Rattle.std.specs.Char.{is_whitespace}
@@ -290,7 +290,8 @@ usage_by false true = usages.OnlyCitationNumber
 usage_by true true = usages.Mixed
 
 -- What a call gives: a tree; whether the test `disambiguate` was evaluated; what was printed of the first names by their options; which
--- identifiers were printed; and of an item its first names, in a published style as they were before texts met.
+-- identifiers were printed; and of an item its first names where a text stands for names that repeat, in a published style as they were
+-- before texts met.
 pub record Rendered : Type 0 where
   pub tree : Children
   pub met_disambiguate : Bool
@@ -334,12 +335,22 @@ with_first_names first r = record r { first_names = first }
 abbrev pub with_names_of_tree : Rendered → Rendered
 with_names_of_tree r = with_first_names (names_element r.tree) r
 
--- what is rendered of an item; in a published style it ends so, and its first names are those from before texts met
-abbrev pub rendered_item : Quotes → State → Rendered
-rendered_item quotes st =
+-- what is rendered of an item with its first names; in a published style it ends so, and these are those from before texts met
+abbrev pub named_item : Quotes → State → Rendered
+named_item quotes st =
     if st.is_published
     then with_first_names (names_before_meeting st) (finished_item (rendered quotes st))
     else with_names_of_tree (rendered quotes st)
+
+-- what is rendered of an item without them
+abbrev pub nameless_item : Quotes → State → Rendered
+nameless_item quotes st =
+    if st.is_published then finished_item (rendered quotes st) else rendered quotes st
+
+-- what is rendered of an item; with its first names where a text stands for names that repeat
+abbrev pub rendered_item : Quotes → Bool → State → Rendered
+rendered_item quotes substitutes st =
+    if substitutes then named_item quotes st else nameless_item quotes st
 
 -- the whole item, or without a bibliography what is printed for no purpose
 abbrev pub full_of : Style → Context → Option CollapseVerdict → Option Bibliography → Rendered
@@ -370,7 +381,7 @@ append_item s c b st = append c (end (layout_frame b.layout) ∷ []) (append_bib
 
 -- an item of the bibliography
 abbrev pub item_of : Style → Context → Bibliography → Rendered
-item_of s c b = rendered_item c.quotes (append_item s c b (begun_in s))
+item_of s c b = rendered_item c.quotes (is_some b.substitute) (append_item s c b (begun_in s))
 
 -- what a call prints of an item of the bibliography, where the style has one
 abbrev pub bibliography : StyleContext → Answers → CiteProperties → Option (List ℕ) → Option Rendered

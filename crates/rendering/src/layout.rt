@@ -1,6 +1,6 @@
 //! Layouts: how their texts look, what they hand down, and what stands round them.
 
-ghost use Rattle.std.specs.Prelude.{◌≡◌, [], false, None};
+ghost use Rattle.std.specs.Prelude.{◌≡◌, [], false, None, is_some};
 ghost use Rattle.std.specs.Option.{option_map_or, option_map};
 ghost use Rattle.rendering_leaves.specs.Views.{form_view, setting_view};
 ghost use Rattle.rendering_names.specs.Views.{resolved_options_view};
@@ -88,6 +88,13 @@ pub(crate) fn layout_frame<'a>(layout: &'a Layout) -> Frame<'a>
         prefix: text_or_empty(&layout.prefix),
         suffix: text_or_empty(&layout.suffix),
     }
+}
+
+/// Whether a text stands for names that repeat those of the item before.
+pub(crate) fn has_substitute(bibliography: &Bibliography) -> bool
+    ensures { result ≡ is_some (bibliography_layout_view bibliography.now).substitute }
+{
+    bibliography.subsequent_author_substitute.is_some()
 }
 
 /// Whether a style is a published one: the texts of its pages are joined.

@@ -7,7 +7,7 @@ ghost use Rattle.rendering.specs.Purposes.{begun_in, form_of, full_of, append_it
 ghost use Rattle.rendering.specs.Views.{context_in, rendering_view, style_of};
 
 use crate::call::Call;
-use crate::layout::{is_published, layout_frame};
+use crate::layout::{has_substitute, is_published, layout_frame};
 use crate::rendered::{Rendering, rendered, rendered_aligned, rendered_item};
 use rendering_entries::EntryLike;
 use rendering_leaves::{SpecialForm, State};
@@ -47,7 +47,8 @@ impl<'s, 'a> Call<'s, 'a> {
     {
         let mut state = self.begun();
         self.push_item(entry, bibliography, &mut state)?;
-        rendered_item(self.walk.context.quotes, state)
+        let substitutes = has_substitute(bibliography);
+        rendered_item(self.walk.context.quotes, substitutes, state)
     }
 
     /// What collapsing leaves of a cite.

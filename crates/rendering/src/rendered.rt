@@ -4,7 +4,7 @@ ghost use Rattle.std.specs.Prelude.{◌≡◌, IfOk};
 ghost use Rattle.std.specs.Option.{option_map};
 ghost use Rattle.rendering_tree.specs.Trees.{names_element};
 ghost use Rattle.rendering_tree.specs.Views.{element_view, tree_view};
-ghost use Rattle.rendering.specs.Purposes.{completed, rendered, rendered_aligned, rendered_item, usage_by, finished_item, names_before_meeting, with_first_names, with_names_of_tree};
+ghost use Rattle.rendering.specs.Purposes.{completed, rendered, rendered_aligned, rendered_item, usage_by, finished_item, named_item, nameless_item, names_before_meeting, with_first_names, with_names_of_tree};
 ghost use Rattle.rendering.specs.Views.{rendering_view};
 ghost use Rattle.rendering_page.specs.Views.{quotes_view};
 
@@ -28,7 +28,7 @@ pub struct Rendering {
     pub names: Option<NameDisambiguationProperties>,
     /// Which identifiers were printed.
     pub identifier_usage: IdentifierUsage,
-    /// Of an item its first names, in a published style as they were before texts met.
+    /// Of an item its first names where a text stands for names that repeat, in a published style as they were before texts met.
     pub first_names: Option<Elem>,
 }
 
@@ -40,10 +40,40 @@ pub(crate) fn rendered(quotes: &[&str], state: State<'_>) -> Result<Rendering, A
     rendered_aligned(quotes, None, state)
 }
 
-/// The tree of an item, and what became known. In a published style it ends in no white space, nor in a text after a block.
-pub(crate) fn rendered_item(quotes: &[&str], state: State<'_>) -> Result<Rendering, AllocError>
+/// The tree of an item, and what became known; with its first names where a text stands for names that repeat.
+pub(crate) fn rendered_item(
+    quotes: &[&str],
+    substitutes: bool,
+    state: State<'_>,
+) -> Result<Rendering, AllocError>
     ensures { IfOk result (λ r. rendering_view r
-        ≡ rendered_item (quotes_view quotes.now) state.entry) }
+        ≡ rendered_item (quotes_view quotes.now) substitutes state.entry) }
+{
+    if substitutes {
+        named_item(quotes, state)
+    } else {
+        nameless_item(quotes, state)
+    }
+}
+
+/// The tree of an item, and what became known but its first names. In a published style it ends in no white space, nor in a text after a
+/// block.
+fn nameless_item(quotes: &[&str], state: State<'_>) -> Result<Rendering, AllocError>
+    ensures { IfOk result (λ r. rendering_view r
+        ≡ nameless_item (quotes_view quotes.now) state.entry) }
+{
+    let is_finished = state.is_published;
+    if is_finished {
+        return finished_item(rendered(quotes, state)?);
+    }
+    rendered(quotes, state)
+}
+
+/// The tree of an item with its first names, and what became known. In a published style it ends in no white space, nor in a text after a
+/// block.
+fn named_item(quotes: &[&str], state: State<'_>) -> Result<Rendering, AllocError>
+    ensures { IfOk result (λ r. rendering_view r
+        ≡ named_item (quotes_view quotes.now) state.entry) }
 {
     let is_published = state.is_published;
     if is_published {

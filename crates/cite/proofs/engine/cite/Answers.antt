@@ -1,23 +1,16 @@
-use Rattle.std.proofs.Common.{◌≡◌, ℕ, List, Err, rules}
+use Rattle.std.proofs.Common.{◌≡◌, Err, rules}
 use Rattle.std.specs.Io.KnownBytes.{Appends}
 use Rattle.cite_output.specs.Pieces.{output_of}
-use Rattle.cite_requests.specs.Answers.{Writes}
-use Rattle.cite.specs.Verdict.{IsVerdict}
 use Rattle.cite.specs.Views.{task_of}
-use Rattle.cite.proofs.AlikeAnswers.{writes_alike}
-use Rattle.cite.proofs.RewrittenAnswers.{refused_alike, writes_rewritten}
+use Rattle.cite.proofs.CitedOutputs.{output_cited}
+use Rattle.cite.proofs.RewrittenAnswers.{refused_alike}
 use Rattle.cite.proofs.engine.cite.Goals as goal
 
 pub returns-in-Ok-clause-written : goal.returns-in-Ok-clause-written
 returns-in-Ok-clause-written g c =
-    let task = task_of c.args.document.now c.args.style.now c.args.locale.now c.args.sections.now c.args.format in
-    let taken : List ℕ → Type 0 = λ output. Appends (g.W.Sink.contents c.args.sink.now) (g.W.Sink.contents c.write_to.new.sink) output in
-    let output : Writes (IsVerdict c.args.bib.now task) taken = (output_of c.in_ok-output.output, c.in_ok-output.ensures, c.in-Ok.ensures.ok) in
-    record {
-      output = output;
-      alike = writes_alike c.args.bib.now task taken output;
-      rewriting = writes_rewritten c.args.bib.now task taken output;
-    }
+    output_cited c.args.bib.now (task_of c.args.document.now c.args.style.now c.args.locale.now c.args.sections.now c.args.format)
+    (λ output. Appends (g.W.Sink.contents c.args.sink.now) (g.W.Sink.contents c.write_to.new.sink) output)
+    (output_of c.in_ok-output.output, c.in_ok-output.ensures, c.in-Ok.ensures.ok)
 
 pub returns-clause-cut_short : goal.returns-clause-cut_short
 returns-clause-cut_short g c = (output_of c.in_ok-output.output, c.in_ok-output.ensures, c.in-Err.ensures.err)

@@ -82,6 +82,6 @@ returns c =
     let slice = c.deref-2.result.now in
     let wanted : map entry_view (borrowed slice) ≡ chosen xs (library_view library) =
     lent_whole slice ∙ ap lent_works_view c.deref-2.ensures.value ∙ c.in_ok-chosen.ensures ∙ (λ i. chosen (map selector_view (c.deref.ensures.value i)) (library_view library)) in
-    subst (λ (r : Result finish.Rendered Refusal). Gives rendered_view c.finish.result r)
+    subst (λ (r : Result finish.Rendered Refusal). Gives rendered_view c.finish-rendered.result r)
     (finishes (file_works_with c.args.bib_file library) x sections pieces c.in_ok-requests.requests.items xs (borrowed slice) c.in_ok-requests.ensures c.in_ok-selectors.ensures wanted (works_listed (entries library) library.distinct) ∙ same)
-    c.finish.ensures
+    c.finish-rendered.ensures

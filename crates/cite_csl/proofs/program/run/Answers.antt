@@ -19,13 +19,13 @@ returns-in-Err-clause-command g c two =
 pub returns-in-Ok-clause-served : goal.returns-in-Ok-clause-served
 returns-in-Ok-clause-served g c zero =
     let ok = sections_ok c.as_slice.result.now c.args.asked.now.sections.items c.as_slice.ensures.value c.in_default.ensures.ok in
-    (made_view c.in-Ok.made, ok, c.in-Ok.ensures, c.write.ensures.served zero)
+    (made_view c.in-Ok.made, ok, c.in-Ok.ensures, c.write_last.ensures.served zero)
 
 pub returns-in-Ok-clause-as_cite : goal.returns-in-Ok-clause-as_cite
 returns-in-Ok-clause-as_cite g c zero =
     let m = made_view c.in-Ok.made in
     let ok = sections_ok c.as_slice.result.now c.args.asked.now.sections.items c.as_slice.ensures.value c.in_default.ensures.ok in
-    let served = c.write.ensures.served zero in
+    let served = c.write_last.ensures.served zero in
     (m, ok, c.in-Ok.ensures, (served.0, as_cite (read_at c.args.files.now) (asked_view c.args.asked.now) m c.in-Ok.ensures))
 
 pub returns-in-Ok-clause-message : goal.returns-in-Ok-clause-message
@@ -33,13 +33,13 @@ returns-in-Ok-clause-message g c one =
     let read = read_at c.args.files.now in
     let a = asked_view c.args.asked.now in
     let ok = sections_ok c.as_slice.result.now c.args.asked.now.sections.items c.as_slice.ensures.value c.in_default.ensures.ok in
-    let cut = c.write.ensures.cut_short one in
-    write_said (IsFault read a) (ServesOutput read a) _ _ _ _ _ _ cut.0 (made_view c.in-Ok.made, ok, c.in-Ok.ensures, tt) (c.write.ensures.message one)
+    let cut = c.write_last.ensures.cut_short one in
+    write_said (IsFault read a) (ServesOutput read a) _ _ _ _ _ _ cut.0 (made_view c.in-Ok.made, ok, c.in-Ok.ensures, tt) (c.write_last.ensures.message one)
 
 pub returns-in-Ok-clause-untouched : goal.returns-in-Ok-clause-untouched
 returns-in-Ok-clause-untouched g c one =
     let ok = sections_ok c.as_slice.result.now c.args.asked.now.sections.items c.as_slice.ensures.value c.in_default.ensures.ok in
-    let cut = c.write.ensures.cut_short one in
+    let cut = c.write_last.ensures.cut_short one in
     inr (cut.0, (made_view c.in-Ok.made, ok, c.in-Ok.ensures, cut.1))
 
 pub returns-in-Err-make-clause-message : goal.returns-in-Err-make-clause-message
