@@ -229,6 +229,9 @@ def filter_table(found):
     return "\n".join([
         FILTER,
         *runs_of(found),
+        "Of more entries a larger share prints alike by author and year, and such cites are printed once more: for that `author-date` grows faster "
+        "than its input.",
+        "",
         f"Wanted: at most {wanted['rate']}, at most {wanted['exponent']}, and memory at most {wanted['memory']} times the input. {measured(found)}",
         "",
     ])
